@@ -1,0 +1,2 @@
+-- What the contracts of this floor say.
+pub mod MulDiv
