@@ -1,18 +1,15 @@
-// Prints document 01's figures K1 to K3 as the proved multiply-and-divide computes them.
+// Prints document 01's figures K1 to K3 as the proved yield computes them, at the Conservative pool's 200 basis points.
 use libc::STDOUT_FILENO;
-use limbs::MulDiv;
+use rules::Yield;
+ghost use Prim.Native.Nat.{_≤_};
 
-// The seconds of a year of 365 days, times the basis points of the whole.
-const YEAR: u64 = 315_360_000_000;
-
-// An accrual with the yield of a stake at 200 basis points over some seconds added.
-fn bank(accrual: u64, stake: u64, basis_point_seconds: u64) -> u64 {
-    match limbs::signed_mul_div(stake, basis_point_seconds, YEAR) {
-        MulDiv::Exact {
-            quotient,
-            remainder: _,
-        } => std::num::wrapping_add_u64(accrual, quotient),
-        MulDiv::TooLarge => accrual,
+// An accrual with the yield of a stake over some seconds added.
+fn bank(accrual: u64, stake: u64, seconds: u64) -> u64
+    requires { ⌜ seconds ≤ 17_179_869_183 ⌝ }
+{
+    match rules::compute_yield(stake, 200, seconds) {
+        Yield::Word(earned) => std::num::wrapping_add_u64(accrual, earned),
+        Yield::TooLarge => accrual,
     }
 }
 
@@ -26,16 +23,16 @@ fn line(label: &[u8], first: u64, second: u64) {
 
 fn main() {
     io::write_all(STDOUT_FILENO, b"K1 a year of 10000000: ");
-    io::print_decimal(STDOUT_FILENO, bank(0, 10_000_000, 200 * 31_536_000));
+    io::print_decimal(STDOUT_FILENO, bank(0, 10_000_000, 31_536_000));
     io::write_all(STDOUT_FILENO, b"\n");
     line(
         b"K2 1000000 for 1576 s and for 1577 s: ",
-        bank(0, 1_000_000, 200 * 1_576),
-        bank(0, 1_000_000, 200 * 1_577),
+        bank(0, 1_000_000, 1_576),
+        bank(0, 1_000_000, 1_577),
     );
     line(
         b"K3 banked twice after 1576 s, and once after 3152 s: ",
-        bank(bank(0, 1_000_000, 200 * 1_576), 1_000_000, 200 * 1_576),
-        bank(0, 1_000_000, 200 * 3_152),
+        bank(bank(0, 1_000_000, 1_576), 1_000_000, 1_576),
+        bank(0, 1_000_000, 3_152),
     );
 }

@@ -1,0 +1,20 @@
+-- What the rules promise. The theorems: `Figures`, `Refused`, `Formed` and `Alone` (of one call), `Granted`, `Cover` and `Sharing` (over
+-- histories from a fresh set). The other files are their proofs.
+pub mod Keys
+pub mod Rows
+pub mod Reached
+pub mod Alone
+pub mod Along
+pub mod Figures
+pub mod Refused
+pub mod Formed
+pub mod Offers
+pub mod Granted
+pub mod Covering
+pub mod Falls
+pub mod Claimed
+pub mod Cover
+pub mod Rounding
+pub mod Losing
+pub mod Fairly
+pub mod Sharing

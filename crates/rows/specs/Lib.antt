@@ -1,0 +1,4 @@
+pub mod Rows
+pub mod Found
+pub mod Halves
+pub mod Chunks

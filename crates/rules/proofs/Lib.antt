@@ -1,0 +1,24 @@
+-- Laws of one call, and of the functions that need no tables (`Tiers`, `Yields`). `Figures`, `Codes`, `Guards` and `Worked` are document 01's own figures and warnings; the others hold of every call.
+pub mod Samples
+pub mod Figures
+pub mod Codes
+pub mod Guards
+pub mod Worked
+pub mod Tests
+pub mod Tables
+pub mod Facts
+pub mod Decided
+pub mod Ladders
+pub mod Shapes
+pub mod Cuts
+pub mod Small
+pub mod Losses
+pub mod Writes
+pub mod Rates
+pub mod Payable
+pub mod Kept
+pub mod Tiers
+pub mod Ranges
+pub mod Yields
+pub mod Bounds
+pub mod Refusals
