@@ -1,4 +1,4 @@
--- Laws of one call, and of the functions that need no tables (`Tiers`, `Yields`). `Figures`, `Codes`, `Guards` and `Worked` are document 01's own figures and warnings; the others hold of every call.
+-- Laws of one call, and of the functions that need no tables (`Tiers`, `Yields`, `Banked`). `Figures`, `Codes`, `Guards` and `Worked` are document 01's own figures and warnings; the others hold of every call.
 pub mod Samples
 pub mod Figures
 pub mod Codes
@@ -20,5 +20,6 @@ pub mod Kept
 pub mod Tiers
 pub mod Ranges
 pub mod Yields
+pub mod Banked
 pub mod Bounds
 pub mod Refusals

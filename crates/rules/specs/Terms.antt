@@ -10,9 +10,11 @@ use mir.Syntax.{w64}
 use mir.Val.{ofZ}
 use Rattle.whole.specs.Whole.{up}
 use Rattle.whole.specs.Shares.{share}
+use Rattle.rules.specs.declared.terms.Banked.{Banked}
+use Rattle.rules.specs.declared.terms.Banked.the-variants.{To, OverLimit}
 use Rattle.rules.specs.declared.terms.Yield.{Yield}
 use Rattle.rules.specs.declared.terms.Yield.the-variants.{Word, TooLarge}
-use Rattle.rules.specs.Limits.{basisPoints, yearDivisor, riskAge, riskAmount, aggressive, flat}
+use Rattle.rules.specs.Limits.{limit, basisPoints, yearDivisor, riskAge, riskAmount, aggressive, flat}
 
 -- tier_parameters: "Yield and payout cap in basis points: 200 and 5,000; 500 and 7,500; 1,000 and 10,000"
 abbrev pub tierParameters : List (ℕ × ℕ)
@@ -52,3 +54,7 @@ yieldAnswer earned = cond (ltb (natAbs earned) (2 ^ 63)) (Word (ofZ w64 earned))
 -- test of Stake, "If the old stake is above 0", asks nothing more
 unfoldable pub bankAccruedYield : ℕ → ℕ → ℤ → ℕ → ℕ → ℕ
 bankAccruedYield rate now stake since accrual = accrual + up (computeYield stake rate (elapsed since now))
+
+-- an accrual as the function `bank_accrued_yield` answers it: "an accrual within 0 to 10^15", or that it would pass its limit
+abbrev pub bankedAnswer : ℕ → Banked
+bankedAnswer accrual = cond (leb accrual limit) (To accrual) OverLimit

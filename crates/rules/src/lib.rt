@@ -2,9 +2,11 @@
 // Accounts, offers and invoices are different kinds of number, so that none can stand for another.
 mod terms;
 
+pub use terms::Banked;
 pub use terms::TierTerms;
 pub use terms::Yield;
 pub use terms::assess_risk;
+pub use terms::bank_accrued_yield;
 pub use terms::capped_amount;
 pub use terms::compute_yield;
 pub use terms::tier_parameters;

@@ -4,12 +4,15 @@ ghost use Prim.Native.Nat.{_*_, _≤_, _<_, _^_};
 ghost use lib.ListN.{getD};
 ghost use mir.Syntax.{w64};
 ghost use mir.Val.{toZ};
-ghost use Rattle.rules.specs.Terms.{tierParameters, yieldRate, capped, assessRisk, computeYield, point, yieldAnswer};
+ghost use Rattle.rules.specs.Terms.{tierParameters, yieldRate, capped, assessRisk, computeYield, point, yieldAnswer, elapsed, bankAccruedYield, bankedAnswer};
 use limbs::MulDiv;
 
 const BASIS_POINTS: u64 = 10_000;
 
 const BASIS_POINT_YEAR: u64 = 315_360_000_000;
+
+// The greatest accrual.
+const LIMIT: u64 = 1_000_000_000_000_000;
 
 const RISK_AGE_SECS: u64 = 2_592_000;
 
@@ -40,6 +43,12 @@ const TIERS: [TierTerms; 3] = [
 pub enum Yield {
     Word(u64),
     TooLarge,
+}
+
+// An accrual, or that it would pass its limit.
+pub enum Banked {
+    To(u64),
+    OverLimit,
 }
 
 // The terms of a tier.
@@ -91,6 +100,33 @@ pub fn compute_yield(principal: u64, rate: u64, elapsed: u64) -> Yield
             remainder: _,
         } => Yield::Word(quotient),
         MulDiv::TooLarge => Yield::TooLarge,
+    }
+}
+
+// Seconds from `since` on, 0 if the clock went back.
+fn elapsed_secs(since: u64, time: u64) -> u64
+    ensures { λ r. ⌜ r ≡ elapsed since time ⌝ }
+{
+    if time < since { 0 } else { time - since }
+}
+
+// An accrual with the yield of a stake banked at a time. `stake` is a signed word; a negative one earns nothing.
+pub fn bank_accrued_yield(rate: u64, time: u64, stake: u64, since: u64, accrual: u64) -> Banked
+    requires { ⌜ (rate ≤ 1_000_000) × (time ≤ 17_179_869_183) × (accrual ≤ 1_000_000_000_000_000) ⌝ }
+    ensures { λ r. ⌜ r ≡ bankedAnswer (bankAccruedYield rate time (toZ w64 stake) since accrual) ⌝ }
+{
+    if whole::is_negative(stake) {
+        return Banked::To(accrual);
+    }
+    match compute_yield(stake, rate, elapsed_secs(since, time)) {
+        Yield::Word(earned) => {
+            if earned <= LIMIT - accrual {
+                Banked::To(accrual + earned)
+            } else {
+                Banked::OverLimit
+            }
+        }
+        Yield::TooLarge => Banked::OverLimit,
     }
 }
 
