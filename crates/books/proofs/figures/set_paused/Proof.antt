@@ -1,0 +1,28 @@
+-- `set_paused` meets its contract: the word of a flag is 1 or 0.
+use mathlib.Core.Path.{_≡_, refl, ap}
+use mathlib.Core.Bool.{Bool, true, false, cond}
+use Prim.Native.Nat.{ℕ}
+use lib.ListN.{set}
+use mir.Val.{boolByte}
+use borrow.Author.Needs.{needs}
+use Rattle.books.proofs.figures.set_paused.Statement.{statement}
+use Rattle.books.proofs.figures.set_paused.Tie as tie
+
+flag : (t : Bool) → boolByte t ≡ cond t 1 0
+flag true = refl
+flag false = refl
+
+cast-books : tie.Need-cast-books
+cast-books c = search needs
+
+slice-write-books : tie.Need-slice-write-books
+slice-write-books c = search needs
+
+same-length : tie.Need-same-length
+same-length c = search needs
+
+returns : tie.Need-returns
+returns c = ap (λ (w : ℕ). set (c .args .books .now) 10 w) (flag (c .args .paused))
+
+pub set-paused-spec : {M : Type 1} → statement M
+set-paused-spec = tie.close (tie.spec cast-books slice-write-books same-length returns)

@@ -1,0 +1,61 @@
+-- `read_stake` meets its contract: what a search finds is what the rules find (`find-stake`).
+use mathlib.Core.Path.{_≡_, sym, ap, _∙_}
+use Prim.Native.Nat.{_<_}
+use native.Mathlib.Omega.{arith}
+use borrow.Author.Needs.{needs}
+use Rattle.rows.specs.Found.{placeOf}
+use Rattle.rows.specs.declared.Place.the-variants.{At}
+use Rattle.rows.proofs.Order.{found-at}
+use Rattle.rules.specs.Books.{StakeRow, noStake}
+use Rattle.rules.specs.Table.{keyOf}
+use Rattle.books.specs.Words.{stakeRowAt}
+use Rattle.books.proofs.Lists.{rowOr}
+use Rattle.books.proofs.StakeRows.{find-stake}
+use Rattle.books.proofs.stakes.read_stake.Statement.{statement}
+use Rattle.books.proofs.stakes.read_stake.Tie as tie
+
+-- the parameters, seen from the arm that found a row
+abbrev st : tie.After-i → tie.Start
+st c = c .before .before .before .before
+
+abbrev none : tie.Start → StakeRow
+none c = noStake (c .args .pool) (c .args .account .0)
+
+at-i : (c : tie.After-i) → placeOf (st c .args .stakes .now) 5 (st c .args .used) (keyOf (st c .args .pool) (st c .args .account .0)) ≡ At (c .i .given .0 .0)
+at-i c = sym (c .before .before .find .ensures) ∙ c .i .given .1
+
+below : (c : tie.After-i) → c .i .given .0 .0 < st c .args .used
+below c =
+    let a = st c .args in
+    found-at (a .stakes .now) 5 (a .used) (keyOf (a .pool) (a .account .0)) (c .i .given .0 .0) (st c .pre .table .sorted) (at-i c) .0
+
+find-requires : tie.Need-find-requires
+find-requires c κs = (omega arith, (c .before .pre .table .fits, c .before .pre .table .sorted))
+
+enum-known-i : tie.Need-enum-known-i
+enum-known-i c = search needs
+
+stake-at-requires : tie.Need-stake-at-requires
+stake-at-requires c κs = omega (arith, below (c .before), st (c .before) .pre .table .fits)
+
+enum-told : tie.Need-enum-told
+enum-told c = search needs
+
+returns : tie.Need-returns
+returns c =
+    let e = c .before .before in
+    let b = st e in
+    let a = b .args in
+    c .stake-at .ensures
+    ∙ sym (find-stake (a .stakes .now) (a .used) (b .pre .table) (none b) (keyOf (a .pool) (a .account .0)) ∙ ap (rowOr stakeRowAt (a .stakes .now) (none b)) (at-i e))
+
+returns-2 : tie.Need-returns-2
+returns-2 c =
+    let b = c .before .before .before .before in
+    let a = b .args in
+    sym (find-stake (a .stakes .now) (a .used) (b .pre .table) (none b) (keyOf (a .pool) (a .account .0))
+    ∙ ap (rowOr stakeRowAt (a .stakes .now) (none b)) (sym (c .before .before .find .ensures) ∙ c .enum-told .given .1))
+
+pub read-stake-spec : {M : Type 1} → statement M
+read-stake-spec =
+    tie.close (tie.spec find-requires enum-known-i stake-at-requires enum-told returns returns-2)

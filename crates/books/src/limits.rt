@@ -1,0 +1,14 @@
+// The limits of document 01 that lent tables keep to.
+
+pub const MOST_STAKES: usize = 1_024;
+
+pub const MOST_OFFERS: usize = 512;
+
+pub const LAST_POOL: u64 = 3;
+
+pub const LAST_TIME: u64 = 17_179_869_183;
+
+// The greatest stake, up or down, accrual and reserved sum.
+pub const LIMIT: u64 = 1_000_000_000_000_000;
+
+pub const GREATEST_RATE: u64 = 1_000_000;

@@ -1,0 +1,13 @@
+-- `is_gone` meets its contract: a word is 0 exactly where its number is.
+use Rattle.losses.proofs.Cuts.{word-zero, word-some}
+use Rattle.losses.proofs.write.is_gone.Statement.{statement}
+use Rattle.losses.proofs.write.is_gone.Tie as tie
+
+returns : tie.Need-returns
+returns c = rw (word-zero (c .before .args .stake) (c .if1 .taken))
+
+returns-2 : tie.Need-returns-2
+returns-2 c = rw (word-some (c .before .args .stake) (c .before .fits .stake .fits) (c .if1 .left))
+
+pub is-gone-spec : {M : Type 1} → statement M
+is-gone-spec = tie.close (tie.spec returns returns-2)

@@ -1,0 +1,29 @@
+//! Document 01's behaviour on top of the insurance module. Amounts, sharing, banking and caps are the module's; what stands here
+//! is what document 01 marks as added: numbers and tables, limits, the order of codes, the log.
+
+mod answer;
+mod books;
+mod desk;
+mod engine;
+pub mod limits;
+mod log;
+mod module;
+mod operation;
+mod question;
+mod random;
+mod record;
+mod rng;
+mod tables;
+mod text;
+
+pub use answer::{Answer, Code, Way};
+pub use books::{Books, OfferRow, Settings, StakeRow};
+pub use desk::Desk;
+pub use engine::Engine;
+pub use log::{head, print_replay, Log};
+pub use operation::Operation;
+pub use question::{assess_risk, Question};
+pub use random::random_log;
+pub use record::Record;
+pub use tables::{Rooms, Tables};
+pub use text::{parse_questions, parse_tables, print_tables, read_log, write_log};

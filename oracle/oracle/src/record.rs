@@ -1,0 +1,44 @@
+//! A record of the log: 48 bytes, whatever they mean.
+
+#[derive(Clone, Debug, Default, PartialEq, Eq)]
+pub struct Record {
+    pub operation: u8,
+    pub pool: u8,
+    pub reply: u8,
+    pub spare: [u8; 5],
+    pub now: u64,
+    pub signer: u64,
+    pub subject: u64,
+    pub other: u64,
+    pub amount: i64,
+}
+
+impl Record {
+    pub const LENGTH: usize = 48;
+
+    pub fn from_bytes(bytes: &[u8; Record::LENGTH]) -> Record {
+        let word = |at: usize| bytes[at..at + 8].try_into().expect("eight bytes");
+        Record {
+            operation: bytes[0],
+            pool: bytes[1],
+            reply: bytes[2],
+            spare: bytes[3..8].try_into().expect("five bytes"),
+            now: u64::from_le_bytes(word(8)),
+            signer: u64::from_le_bytes(word(16)),
+            subject: u64::from_le_bytes(word(24)),
+            other: u64::from_le_bytes(word(32)),
+            amount: i64::from_le_bytes(word(40)),
+        }
+    }
+
+    pub fn to_bytes(&self) -> [u8; Record::LENGTH] {
+        let mut bytes = [0; Record::LENGTH];
+        bytes[..3].copy_from_slice(&[self.operation, self.pool, self.reply]);
+        bytes[3..8].copy_from_slice(&self.spare);
+        let words = [self.now, self.signer, self.subject, self.other, self.amount as u64];
+        for (place, word) in bytes[8..].chunks_exact_mut(8).zip(words) {
+            place.copy_from_slice(&word.to_le_bytes());
+        }
+        bytes
+    }
+}
