@@ -1,0 +1,13 @@
+-- What banking a row's yield asks of the books' words and of the row.
+use mathlib.Core.Path.{_≡_}
+use mathlib.Core.List.{List}
+use Prim.Native.Nat.{ℕ, _≤_}
+use lib.ListN.{length, getD}
+use Rattle.rules.specs.Limits.{limit, lastTime, greatestRate}
+
+pub record Bankable (b : List ℕ) (pool time accrual : ℕ) : Type 0 where
+  pub twelve : length b ≡ 12
+  pub rate : getD b 11 0 ≤ greatestRate
+  pub pool-is : pool ≤ 3
+  pub time-is : time ≤ lastTime
+  pub accrued : accrual ≤ limit

@@ -1,0 +1,36 @@
+// Whether a call's or a question's own fields meet their needs.
+ghost use mathlib.Core.Path.{_≡_};
+ghost use mathlib.Core.List.{[], _∷_};
+ghost use lib.Dec.{leb};
+ghost use Rattle.rules.specs.Limits.{lastTime, isPool, isNumber};
+ghost use Rattle.rules.specs.Table.{all};
+
+const LAST_POOL: u64 = 3;
+
+const LAST_TIME: u64 = 17_179_869_183;
+
+pub fn is_pool(pool: u64) -> bool
+    ensures { λ r. ⌜ r ≡ isPool pool ⌝ }
+{
+    pool <= LAST_POOL
+}
+
+// Of an account, an offer or an invoice: 0 means none.
+pub fn is_number(number: u64) -> bool
+    ensures { λ r. ⌜ r ≡ isNumber number ⌝ }
+{
+    number != 0
+}
+
+pub fn is_time(time: u64) -> bool
+    ensures { λ r. ⌜ r ≡ leb time lastTime ⌝ }
+{
+    time <= LAST_TIME
+}
+
+// A pool and a number: what a row is asked for by.
+pub fn is_key(pool: u64, number: u64) -> bool
+    ensures { λ r. ⌜ r ≡ all (isPool pool ∷ isNumber number ∷ []) ⌝ }
+{
+    is_pool(pool) & is_number(number)
+}
