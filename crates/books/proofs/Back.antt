@@ -28,6 +28,13 @@ module _ {A : Type 0} (rowAt : List ℕ → ℕ → A) (key : A → ℕ) (Ok : A
   rows-sorted low i zero h a b p q r = absurd (omega arith)
   rows-sorted low i (suc n) h a b p q r = ⊎-elim (λ e. omega (arith, key-is i, ap (keyAt s w) e, rows-above (key (rowAt s i)) (suc i) n (h .2) b (omega arith) (omega arith))) (λ l. rows-sorted (key (rowAt s i)) (suc i) n (h .2) a b (omega arith) q (omega arith)) (le-cases i a p)
 
+-- each of them is in order
+pub rows-ok : {A : Type 0} (rowAt : List ℕ → ℕ → A) (key : A → ℕ) (Ok : A → Type 0) (s : List ℕ) (low i n : ℕ) → Rows key Ok low (rowsFrom rowAt s i n) → (j : ℕ) → i ≤ j → j < i + n → Ok (rowAt s j)
+unfolding rowsFrom
+rows-ok rowAt key Ok s low i zero h j p q = absurd (omega arith)
+rows-ok rowAt key Ok s low i (suc n) h j p q =
+    ⊎-elim (λ e. subst (λ (k : ℕ). Ok (rowAt s k)) e (h .1)) (λ l. rows-ok rowAt key Ok s (key (rowAt s i)) (suc i) n (h .2) j (omega arith) (omega arith)) (le-cases i j p)
+
 -- ---- words after the rows
 
 pub zeros-length : (z : ℕ) → length (zeros z) ≡ z

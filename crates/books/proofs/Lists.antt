@@ -38,6 +38,12 @@ rows-next rowAt s i n h =
     let f : suc i ≡ i + 1 = omega arith in
     ap (λ (k : ℕ). rowsFrom rowAt s i k) e ∙ ap (λ (k : ℕ). rowAt s i ∷ rowsFrom rowAt s k (n - (i + 1))) f
 
+-- and as a loop from the last row down takes it
+pub rows-before : {A : Type 0} (rowAt : List ℕ → ℕ → A) (s : List ℕ) (i n : ℕ) → 0 < i → i ≤ n → rowsFrom rowAt s (i - 1) (n - (i - 1)) ≡ rowAt s (i - 1) ∷ rowsFrom rowAt s i (n - i)
+rows-before rowAt s i n some most =
+    let e : i - 1 + 1 ≡ i = omega arith in
+    rows-next rowAt s (i - 1) n (omega arith) ∙ ap (λ (k : ℕ). rowAt s (i - 1) ∷ rowsFrom rowAt s k (n - k)) e
+
 -- and none is left
 pub rows-done : {A : Type 0} (rowAt : List ℕ → ℕ → A) (s : List ℕ) (i n : ℕ) → n ≤ i → rowsFrom rowAt s i (n - i) ≡ []
 unfolding rowsFrom

@@ -89,7 +89,7 @@ four-same d (suc (suc zero)) = refl
 four-same d (suc (suc (suc zero))) = refl
 four-same d (suc (suc (suc (suc p)))) = refl
 
-fresh-formed : (admin : ℕ) (rooms : Rooms) → Number admin → roomsLent rooms ≡ true → WellFormed (fresh admin rooms)
+pub fresh-formed : (admin : ℕ) (rooms : Rooms) → Number admin → roomsLent rooms ≡ true → WellFormed (fresh admin rooms)
 unfolding sumOf
 fresh-formed admin rooms n e =
     let l = lent-read rooms e in

@@ -12,7 +12,7 @@ use borrow.Author.Tests.{eq-eqb, eqb-true}
 use Rattle.whole.proofs.Linear.{whole, dif, abs}
 use Rattle.whole.proofs.Words.{word-back, halves}
 use Rattle.rules.specs.Books.{isZero}
-use Rattle.books.proofs.Conditions.{bool-same}
+use Rattle.rules.proofs.Conditions.{bool-same}
 
 -- a word is 0 where its number is
 pub zero-same : (a : ℕ) → a < 2 ^ 64 → eqb a 0 ≡ isZero (toZ w64 a)

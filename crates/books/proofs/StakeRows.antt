@@ -3,18 +3,18 @@ use mathlib.Core.Path.{_≡_, refl, sym, ap, _∙_}
 use mathlib.Core.Logic.{_≢_}
 use mathlib.Core.Bool.{true}
 use mathlib.Core.List.{List, [], _∷_, _++_}
-use Prim.Native.Nat.{ℕ, _+_, _*_, _≤_}
+use Prim.Native.Nat.{ℕ, _+_, _*_, _≤_, _<_}
 use native.Mathlib.Omega.{arith}
 use lib.IntN.{ℤ, natAbs}
-use lib.ListN.{length, getD, take, drop, length-drop}
-use lib.Seq.{getD-drop, getD-append-add}
+use lib.ListN.{length, getD, take, drop, length-drop, take-append-drop}
+use lib.Seq.{drop-drop, getD-drop, getD-append-add}
 use mir.Syntax.{w64}
 use mir.Val.{toZ, SFits}
 use borrow.Author.Tests.{leb-true}
 use Rattle.whole.specs.Whole.{Within}
 use Rattle.whole.proofs.Linear.{whole, abs, within-abs}
 use Rattle.whole.proofs.Words.{word-back, number-back}
-use Rattle.rows.specs.Rows.{keyAt, word}
+use Rattle.rows.specs.Rows.{keyAt, word, written}
 use Rattle.rows.specs.Found.{placeOf}
 use Rattle.rules.specs.Limits.{limit}
 use Rattle.rules.specs.Table.{find, put}
@@ -22,12 +22,13 @@ use Rattle.rules.specs.Books.{StakeRow, stakeKey, stakeGone}
 use Rattle.rules.specs.Formed.{stakeTest}
 use Rattle.rules.proofs.Tests.{nth, pool-read}
 use Rattle.rules.proofs.Facts.{StakeOk, Rows}
-use Rattle.books.specs.Tables.{roomOf, tableOf, tableWords}
+use Rattle.books.specs.Tables.{roomOf, usedOf, tableOf, tableWords}
 use Rattle.books.specs.Words.{stakeRowAt, stakeWords}
 use Rattle.books.specs.Put.{putWords, putCount}
-use Rattle.books.specs.Held.{Fit, Table, CanPutStake, StakePut}
+use Rattle.books.specs.Held.{Fit, Table, HeldStakes, CanPutStake, StakePut}
 use Rattle.books.proofs.Lists.{rowOr}
-use Rattle.books.proofs.Back.{Written, written}
+use Rattle.books.proofs.Back as back
+use Rattle.books.proofs.Back.{Written, rows-ok}
 use Rattle.books.proofs.RowKinds.{find-held, count-held, words-held, put-held, put-done}
 
 -- the key of a row is that of its words
@@ -48,6 +49,14 @@ same-words s f i h =
     let at : (k : ℕ) → getD (drop (i * 5) s) k 0 ≡ getD s (i * 5 + k) 0 = λ k. getD-drop (i * 5) s k 0 in
     sym (five (drop (i * 5) s) (omega (arith, length-drop (i * 5) s)) ∙ cc (at 0, at 1, at 2, at 3, at 4, word-back (word s 5 i 2) (f (i * 5 + 2))))
 
+-- and written in its own place leaves the words as they are
+pub rewritten : (s : List ℕ) → Fit s → (i : ℕ) → i * 5 + 5 ≤ length s → written s 5 i (stakeWords (stakeRowAt s i)) ≡ s
+rewritten s f i h =
+    ap (λ (row : List ℕ). take (i * 5) s ++ (row ++ drop (i * 5 + 5) s)) (same-words s f i h)
+    ∙ ap (λ (l : List ℕ). take (i * 5) s ++ (take 5 (drop (i * 5) s) ++ l)) (sym (drop-drop 5 (i * 5) s))
+    ∙ ap (λ (l : List ℕ). take (i * 5) s ++ l) (take-append-drop 5 (drop (i * 5) s))
+    ∙ take-append-drop (i * 5) s
+
 small-fits : (z : ℤ) → natAbs z ≤ limit → SFits w64 z
 small-fits z h = omega (arith, whole, abs z)
 
@@ -67,7 +76,7 @@ abbrev pub StakesWritten : ℕ → List StakeRow → Type 0
 StakesWritten room rows = Written stakeRowAt stakeWords stakeKey StakeOk 5 (λ r. refl) stake-back room rows
 
 pub stakes-written : (room : ℕ) (rows : List StakeRow) → Rows stakeKey StakeOk 0 rows → length rows ≤ room → StakesWritten room rows
-stakes-written room rows o h = written stakeRowAt stakeWords stakeKey StakeOk 5 (λ r. refl) stake-back (omega arith) key-is room 0 rows o h
+stakes-written room rows o h = back.written stakeRowAt stakeWords stakeKey StakeOk 5 (λ r. refl) stake-back (omega arith) key-is room 0 rows o h
 
 module _ (s : List ℕ) (n : ℕ) (t : Table 5 s n) where
   pub find-stake : (d : StakeRow) (k : ℕ) → find stakeKey d k (tableOf stakeRowAt 5 s) ≡ rowOr stakeRowAt s d (placeOf s 5 n k)
@@ -83,6 +92,10 @@ module _ (s : List ℕ) (n : ℕ) (t : Table 5 s n) where
     pub stake-words : (r : StakeRow) → length (put stakeKey stakeGone r (tableOf stakeRowAt 5 s)) ≤ roomOf 5 s
         → putWords 5 s n (stakeWords r) (stakeGone r) (placeOf s 5 n (stakeKey r)) ≡ tableWords stakeWords 5 (roomOf 5 s) (put stakeKey stakeGone r (tableOf stakeRowAt 5 s))
     stake-words r room = put-held stakeRowAt stakeKey 5 key-is s n t stakeWords (same-words s fit) stakeGone r refl room
+
+-- each row of a table is in order
+pub held-ok : (s : List ℕ) (n : ℕ) → HeldStakes s n → (j : ℕ) → j < n → StakeOk (stakeRowAt s j)
+held-ok s n h j l = rows-ok stakeRowAt stakeKey StakeOk s 0 0 (usedOf 5 s) (h .rows) j (omega arith) (omega (arith, h .table .used))
 
 pub stake-done : (s : List ℕ) (n : ℕ) (r : StakeRow) (t : List ℕ) (k : ℕ) → CanPutStake r s n
     → t ≡ tableWords stakeWords 5 (roomOf 5 s) (put stakeKey stakeGone r (tableOf stakeRowAt 5 s)) → k ≡ length (put stakeKey stakeGone r (tableOf stakeRowAt 5 s)) → StakePut r s t k

@@ -5,3 +5,5 @@ pub mod Put
 pub mod Held
 pub mod Fresh
 pub mod Passes
+pub mod Banking
+pub mod Runs

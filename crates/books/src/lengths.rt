@@ -2,8 +2,8 @@
 use crate::layout::BOOKS_LENGTH;
 use crate::layout::OFFER_WIDTH;
 use crate::layout::STAKE_WIDTH;
-use crate::limits::MOST_OFFERS;
-use crate::limits::MOST_STAKES;
+use rules::limits::MOST_OFFERS;
+use rules::limits::MOST_STAKES;
 ghost use mathlib.Core.Path.{_≡_};
 ghost use Prim.Native.Nat.{_*_, _/_, _<_};
 ghost use lib.Dec.{eqb};

@@ -1,9 +1,9 @@
 // Three lent slices of words, and the books of the rules that they hold: rows and figures read by name, rows put, and a test of any words.
 // Each contract is over the rows and figures of the rules, so that a caller reasons on these alone and never sees an offset.
+mod banking;
 mod figures;
-mod layout;
+pub mod layout;
 mod lengths;
-mod limits;
 mod offers;
 mod opening;
 mod pass;
@@ -11,6 +11,7 @@ mod put;
 mod stakes;
 mod test;
 
+pub use banking::banked_of;
 pub use figures::admin;
 pub use figures::balance;
 pub use figures::is_paused;
@@ -29,8 +30,10 @@ pub use offers::read_offer;
 pub use offers::used_offers;
 pub use opening::fresh;
 pub use stakes::Stake;
+pub use stakes::is_sharer;
 pub use stakes::put_stake;
 pub use stakes::read_stake;
 pub use stakes::stake_at;
 pub use stakes::used_stakes;
+pub use stakes::write_stake;
 pub use test::tables_well_formed;

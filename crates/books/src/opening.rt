@@ -2,6 +2,8 @@
 use crate::figures::set_admin;
 use crate::lengths::is_lent;
 use rules::Account;
+use rules::codes::BAD_TABLES;
+use rules::codes::MALFORMED;
 ghost use mathlib.Core.Path.{_≡_};
 ghost use lib.ListN.{length};
 ghost use Rattle.rows.specs.Rows.{zeros};
@@ -9,10 +11,6 @@ ghost use Rattle.books.specs.Words.{tables};
 ghost use Rattle.books.specs.Fresh.{freshWords, renewed};
 
 // The codes of document 01 that a fresh set is refused with.
-const MALFORMED: u64 = 1;
-
-const BAD_TABLES: u64 = 2;
-
 // Sets every word to zero.
 fn wipe(s: &mut [u64])
     ensures { λ _. ⌜ now (s .exit) ≡ zeros (length (now (s .entry))) ⌝ }

@@ -2,14 +2,14 @@
 use crate::layout::OFFER_WIDTH;
 use crate::layout::POOLS;
 use crate::layout::STAKE_WIDTH;
-use crate::limits::LAST_POOL;
-use crate::limits::LAST_TIME;
-use crate::limits::LIMIT;
 use crate::offers::OfferLine;
 use crate::offers::offer_at;
 use crate::stakes::Stake;
 use crate::stakes::is_gone;
 use crate::stakes::stake_at;
+use rules::limits::LAST_POOL;
+use rules::limits::LAST_TIME;
+use rules::limits::LIMIT;
 ghost use mathlib.Core.Path.{_≡_};
 ghost use Prim.Native.Nat.{_/_, _≤_};
 ghost use lib.ListN.{length};

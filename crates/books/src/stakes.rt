@@ -1,4 +1,4 @@
-// Stake rows by value: read, found, put.
+// Stake rows by value: read, found, written, put.
 use crate::layout::ACCRUAL;
 use crate::layout::NUMBER;
 use crate::layout::POOL;
@@ -12,9 +12,11 @@ ghost use mathlib.Core.Path.{_≡_};
 ghost use mathlib.Core.Bool.{true};
 ghost use Prim.Native.Nat.{_+_, _*_, _≤_};
 ghost use lib.ListN.{length};
+ghost use Rattle.rows.specs.Rows.{written};
 ghost use Rattle.rules.specs.Books.{stakeGone};
+ghost use Rattle.rules.specs.Sharing.{sharer};
 ghost use Rattle.books.specs.Tables.{usedOf, tidy};
-ghost use Rattle.books.specs.Words.{stakeRowAt};
+ghost use Rattle.books.specs.Words.{stakeRowAt, stakeWords};
 ghost use Rattle.books.specs.Held.{stakeOf, stakeFor, HeldStakes, CanPutStake, StakePut};
 
 // A stake row. `stake` is a signed word.
@@ -72,11 +74,34 @@ pub fn is_gone(row: Stake) -> bool
     (row.stake == 0) & (row.accrual == 0)
 }
 
+// Whether a row is of the pool, with a stake.
+pub fn is_sharer(row: Stake, pool: u64) -> bool
+    ensures { λ r. ⌜ r ≡ sharer pool (stakeOf row) ⌝ }
+{
+    (row.pool == pool) & (row.stake != 0)
+}
+
+// A row as its words.
+fn words_of(row: Stake) -> [u64; 5]
+    ensures { λ r. ⌜ r ≡ stakeWords (stakeOf row) ⌝ }
+{
+    [row.pool, row.account, row.stake, row.since, row.accrual]
+}
+
+// Writes a row as row i.
+pub fn write_stake(stakes: &mut [u64], i: usize, row: Stake)
+    requires { ⌜ i * 5 + 5 ≤ length (now stakes) ⌝ }
+    ensures { λ _. ⌜ now (stakes .exit) ≡ written (now (stakes .entry)) 5 i (stakeWords (stakeOf row)) ⌝ }
+{
+    let words = words_of(row);
+    rows::write_row(stakes, STAKE_WIDTH, i, &words);
+}
+
 // Puts a row in its place, or takes the row with its key out where it is gone. Answers the number of used rows.
 pub fn put_stake(stakes: &mut [u64], used: usize, row: Stake) -> usize
     requires { ⌜ CanPutStake (stakeOf row) (now stakes) used ⌝ }
     ensures { λ r. ⌜ StakePut (stakeOf row) (now (stakes .entry)) (now (stakes .exit)) r ⌝ }
 {
-    let words = [row.pool, row.account, row.stake, row.since, row.accrual];
+    let words = words_of(row);
     put_row(stakes, STAKE_WIDTH, used, &words, is_gone(row))
 }

@@ -68,7 +68,7 @@ pub fn step(rest: u64, bit: u64, v: u64) -> Bit
 
 // n / d and n % d, where the quotient is one limb. Both are shifted up until d has its top bit set; then 64 steps, each of which
 // takes the next bit of the low limb; and the remainder is shifted back.
-pub fn divide(n: Wide, d: u64) -> Divided
+pub fn divide_by_bits(n: Wide, d: u64) -> Divided
     requires { ⌜ n .high < d ⌝ }
     ensures { λ r. ⌜ (r .quotient ≡ (n .high * 2 ^ 64 + n .low) / d) × (r .remainder ≡ (n .high * 2 ^ 64 + n .low) % d) ⌝ }
 {
@@ -90,4 +90,18 @@ pub fn divide(n: Wide, d: u64) -> Divided
         quotient,
         remainder: rest >> s,
     }
+}
+
+// The same: a number of one limb, as most are, is divided by the machine.
+pub fn divide(n: Wide, d: u64) -> Divided
+    requires { ⌜ n .high < d ⌝ }
+    ensures { λ r. ⌜ (r .quotient ≡ (n .high * 2 ^ 64 + n .low) / d) × (r .remainder ≡ (n .high * 2 ^ 64 + n .low) % d) ⌝ }
+{
+    if n.high == 0 {
+        return Divided {
+            quotient: n.low / d,
+            remainder: n.low % d,
+        };
+    }
+    divide_by_bits(n, d)
 }

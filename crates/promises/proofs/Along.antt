@@ -1,53 +1,30 @@
 -- A fresh set that is not refused is well formed, and so is every history from it.
-use mathlib.Core.Path.{_≡_, refl, ap}
+use mathlib.Core.Path.{_≡_, refl}
 use mathlib.Core.Bool.{Bool, true, false, cond}
 use mathlib.Core.List.{List, [], _∷_, _++_}
-use Prim.Native.Nat.{ℕ, zero, suc}
+use Prim.Native.Nat.{ℕ}
 use native.Mathlib.Omega.{arith}
-use lib.IntN.{pos}
-use lib.ListN.{getD}
 use Rattle.rules.specs.Limits.{isNumber}
-use Rattle.rules.specs.Table.{sumOf}
 use Rattle.rules.specs.Books.{Books, Rooms, fresh, roomsLent}
 use Rattle.rules.specs.Answers.{freshCode}
 use Rattle.rules.specs.Step.{step}
 use Rattle.rules.specs.Formed.{wellFormed}
 use Rattle.rules.proofs.Tests.{number-read}
 use Rattle.rules.proofs.Facts.{WellFormed}
-use Rattle.rules.proofs.Decided.{lent-read, formed-made}
+use Rattle.rules.proofs.Decided.{formed-made}
 use Rattle.rules.proofs.Kept.{step-formed}
+use Rattle.books.proofs.Opened as opened
 use Rattle.promises.specs.Calls.{Call}
 use Rattle.promises.specs.Histories.{run}
 
-nil : {A : Type 0} (x : A) (p : ℕ) → getD (x ∷ x ∷ x ∷ x ∷ []) p x ≡ x
-nil x zero = refl
-nil x (suc zero) = refl
-nil x (suc (suc zero)) = refl
-nil x (suc (suc (suc zero))) = refl
-nil x (suc (suc (suc (suc p)))) = refl
-
 pub fresh-formed : (admin : ℕ) (rooms : Rooms) → freshCode admin rooms ≡ 0 → WellFormed (fresh admin rooms)
-unfolding freshCode sumOf
+unfolding freshCode
 fresh-formed admin rooms e = go (isNumber admin) (roomsLent rooms) refl refl e
   where
     go : (t u : Bool) → isNumber admin ≡ t → roomsLent rooms ≡ u → _≡_ {A = ℕ} (cond t (cond u 0 2) 1) 0 → WellFormed (fresh admin rooms)
     go false u a r e = absurd (omega arith)
     go true false a r e = absurd (omega arith)
-    go true true a r e =
-        let l = lent-read rooms r in
-        record {
-          stake-rows = tt;
-          offer-rows = tt;
-          stake-room = record { some = l .some-stakes; lent = l .most-stakes; enough = omega arith };
-          offer-room = record { some = l .some-offers; lent = l .most-offers; enough = omega arith };
-          four-balances = refl;
-          four-unpaid = refl;
-          balance-is = λ p h. nil (pos 0) p;
-          unpaid-is = λ p h. ap pos (nil {A = ℕ} 0 p);
-          admin = number-read admin a;
-          caller = omega arith;
-          rate-most = omega arith;
-        }
+    go true true a r e = opened.fresh-formed admin rooms (number-read admin a) r
 
 pub run-formed : (b : Books) (calls : List Call) → WellFormed b → WellFormed (run b calls)
 unfolding run

@@ -1,5 +1,5 @@
 -- What the rules promise. The theorems: `Figures`, `Refused`, `Formed` and `Alone` (of one call), `Granted`, `Cover` and `Sharing` (over
--- histories from a fresh set). The other files are their proofs.
+-- histories from a fresh set), `Words` (of the words that hold the books). The other files are their proofs.
 pub mod Keys
 pub mod Rows
 pub mod Reached
@@ -18,3 +18,4 @@ pub mod Rounding
 pub mod Losing
 pub mod Fairly
 pub mod Sharing
+pub mod Words

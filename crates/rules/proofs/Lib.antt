@@ -1,9 +1,11 @@
--- Laws of one call, and of the functions that need no tables (`Tiers`, `Yields`, `Banked`). `Figures`, `Codes`, `Guards` and `Worked` are document 01's own figures and warnings; the others hold of every call.
+-- Laws of one call, and of the functions that need no tables (`Tiers`, `Yields`, `Banked`). `Figures`, `Order`, `Guards` and `Worked` are document 01's own figures and warnings; the others hold of every call.
 pub mod Samples
 pub mod Figures
-pub mod Codes
+pub mod Order
+pub mod CodeRange
 pub mod Guards
 pub mod Worked
+pub mod Conditions
 pub mod Tests
 pub mod Tables
 pub mod Facts

@@ -1,7 +1,22 @@
-// The declared types that the rules (specs/) speak of: calls, operations, answers; and the rules that need no tables (terms.rt).
+// The declared types that the rules (specs/) speak of: calls, operations, answers; document 01's codes and limits; answers made; and the
+// rules that need no tables (terms.rt).
 // Accounts, offers and invoices are different kinds of number, so that none can stand for another.
+mod answers;
+pub mod codes;
+mod fields;
+pub mod limits;
+mod malformed;
 mod terms;
 
+pub use answers::finish;
+pub use answers::no_transfer;
+pub use answers::refuse;
+pub use answers::transfer_in;
+pub use answers::transfer_out;
+pub use fields::is_key;
+pub use fields::is_pool;
+pub use fields::is_time;
+pub use malformed::is_malformed;
 pub use terms::Banked;
 pub use terms::TierTerms;
 pub use terms::Yield;

@@ -5,14 +5,12 @@ ghost use lib.ListN.{getD};
 ghost use mir.Syntax.{w64};
 ghost use mir.Val.{toZ};
 ghost use Rattle.rules.specs.Terms.{tierParameters, yieldRate, capped, assessRisk, computeYield, point, yieldAnswer, elapsed, bankAccruedYield, bankedAnswer};
+use crate::limits::LIMIT;
 use limbs::MulDiv;
 
 const BASIS_POINTS: u64 = 10_000;
 
 const BASIS_POINT_YEAR: u64 = 315_360_000_000;
-
-// The greatest accrual.
-const LIMIT: u64 = 1_000_000_000_000_000;
 
 const RISK_AGE_SECS: u64 = 2_592_000;
 

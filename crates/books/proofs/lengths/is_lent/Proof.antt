@@ -6,7 +6,7 @@ use borrow.Author.Needs.{needs}
 use Rattle.rules.specs.Books.{roomsLent}
 use Rattle.books.specs.Tables.{roomOf}
 use Rattle.books.specs.Fresh.{lent, wholeRows}
-use Rattle.books.proofs.Conditions.{all-joined}
+use Rattle.rules.proofs.Conditions.{all-joined}
 use Rattle.books.proofs.lengths.is_lent.Statement.{statement}
 use Rattle.books.proofs.lengths.is_lent.Tie as tie
 

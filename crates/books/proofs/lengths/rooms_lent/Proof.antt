@@ -2,7 +2,7 @@
 use mathlib.Core.List.{[], _∷_}
 use lib.Dec.{leb}
 use Rattle.rules.specs.Books.{roomsLent}
-use Rattle.books.proofs.Conditions.{all-joined}
+use Rattle.rules.proofs.Conditions.{all-joined}
 use Rattle.books.proofs.lengths.rooms_lent.Statement.{statement}
 use Rattle.books.proofs.lengths.rooms_lent.Tie as tie
 

@@ -6,7 +6,7 @@ use lib.Dec.{leb}
 use Rattle.rules.specs.Limits.{isPool, isNumber}
 use Rattle.rules.specs.Formed.{offerTest}
 use Rattle.rules.proofs.Tests.{word-number}
-use Rattle.books.proofs.Conditions.{all-joined}
+use Rattle.rules.proofs.Conditions.{all-joined}
 use Rattle.books.proofs.pass.offer_test.Statement.{statement}
 use Rattle.books.proofs.pass.offer_test.Tie as tie
 

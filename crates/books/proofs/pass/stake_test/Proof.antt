@@ -13,7 +13,7 @@ use Rattle.rules.specs.Books.{isZero, stakeGone}
 use Rattle.rules.specs.Formed.{stakeTest}
 use Rattle.rules.proofs.Tests.{word-number}
 use Rattle.books.specs.Held.{stakeOf}
-use Rattle.books.proofs.Conditions.{all-joined}
+use Rattle.rules.proofs.Conditions.{all-joined}
 use Rattle.books.proofs.Signs.{zero-same}
 use Rattle.books.proofs.pass.stake_test.Statement.{statement}
 use Rattle.books.proofs.pass.stake_test.Tie as tie

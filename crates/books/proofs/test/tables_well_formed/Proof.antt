@@ -14,7 +14,7 @@ use Rattle.books.specs.Tables.{roomOf, usedOf}
 use Rattle.books.specs.Words.{Tables, tables, goodTables}
 use Rattle.books.specs.Held.{Fit}
 use Rattle.books.specs.Fresh.{roomsOf, lent}
-use Rattle.books.proofs.Conditions.{bool-same, refuted}
+use Rattle.rules.proofs.Conditions.{bool-same, refuted}
 use Rattle.books.proofs.Counts.{used-most}
 use Rattle.books.proofs.Parts.{Parts, Lengths, lengths-read, parts-read, parts-made, balances-read, balances-made, unpaid-read, unpaid-made}
 use Rattle.books.proofs.test.tables_well_formed.Statement.{statement}

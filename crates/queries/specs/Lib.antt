@@ -1,0 +1,3 @@
+-- The definitions that the contracts of this floor cite.
+pub mod Queries
+pub mod Asking

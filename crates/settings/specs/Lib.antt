@@ -1,0 +1,2 @@
+-- The definitions that the contracts of this floor cite.
+pub mod Rates
