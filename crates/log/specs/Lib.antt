@@ -1,0 +1,8 @@
+-- What a log is, and what a replay prints.
+pub mod Bytes
+pub mod Opening
+pub mod Records
+pub mod Malformed
+pub mod Decimal
+pub mod Written
+pub mod Lines

@@ -1,0 +1,14 @@
+// The log file as document 01 lays it out: its head and its records read from bytes, and the text that a replay prints.
+mod answers;
+mod header;
+mod numbers;
+mod records;
+mod words;
+
+pub use answers::LONGEST;
+pub use answers::write_answer;
+pub use answers::write_ending;
+pub use answers::write_opening;
+pub use header::Head;
+pub use header::read_head;
+pub use records::read_record;

@@ -1,0 +1,3 @@
+-- The input's buffer, and the program's loop.
+pub mod Buffers
+pub mod Turns
