@@ -1,0 +1,2 @@
+-- What the library tells its callers.
+pub mod Face

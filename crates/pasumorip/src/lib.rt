@@ -1,0 +1,133 @@
+// The static library's face: what C and Rust call. Thin over the engine, and with no precondition: any words and bytes may be lent.
+// include/pasumorip.h says it for C.
+mod words;
+
+use crate::words::tell_answer;
+use crate::words::tell_progress;
+use crate::words::tell_two;
+use log::Head;
+use rules::Account;
+ghost use mathlib.Core.Path.{_≡_};
+ghost use Rattle.rules.specs.Terms.{assessRisk};
+ghost use Rattle.books.specs.Words.{tables, booksOf};
+ghost use Rattle.books.specs.Fresh.{renewed, freshWords};
+ghost use Rattle.pasumorip.specs.Face.{called, applied, told, questioned, opened, ran, replayedFrom};
+
+const MALFORMED: u8 = 1;
+
+const BAD_TABLES: u8 = 2;
+
+// The bytes of a record, and the words of a call's and of a query's answer.
+const RECORD: usize = 48;
+
+const ANSWER: usize = 9;
+
+const TOLD: usize = 3;
+
+// The words of a replay's progress, and the most records that may have been run before.
+const PROGRESS: usize = 3;
+
+const MOST_RECORDS: u64 = 9_223_372_036_854_775_808;
+
+// A fresh set of tables, with the given admin.
+#[no_mangle]
+pub extern "C" fn pasumorip_fresh(
+    stakes: &mut [u64],
+    offers: &mut [u64],
+    books: &mut [u64],
+    admin: u64,
+) -> u8
+    ensures { λ r. ⌜ renewed r (tables (now (stakes .exit)) (now (offers .exit)) (now (books .exit))) ≡ freshWords (tables (now (stakes .entry)) (now (offers .entry)) (now (books .entry))) admin ⌝ }
+{
+    books::fresh(stakes, offers, books, Account(admin)) as u8
+}
+
+// A fresh set, with the admin of a log's head.
+#[no_mangle]
+pub extern "C" fn pasumorip_open(
+    stakes: &mut [u64],
+    offers: &mut [u64],
+    books: &mut [u64],
+    head: &[u8],
+) -> u8
+    ensures { λ r. ⌜ renewed r (tables (now (stakes .exit)) (now (offers .exit)) (now (books .exit))) ≡ opened (tables (now (stakes .entry)) (now (offers .entry)) (now (books .entry))) (now (head .entry)) ⌝ }
+{
+    match log::read_head(head) {
+        Head::Admin(admin) => books::fresh(stakes, offers, books, admin) as u8,
+        Head::Bad => MALFORMED,
+    }
+}
+
+// A call, as a log's record, on any tables.
+#[no_mangle]
+pub extern "C" fn pasumorip_apply(
+    stakes: &mut [u64],
+    offers: &mut [u64],
+    books: &mut [u64],
+    bytes: &[u8],
+    answer: &mut [u64],
+) -> u8
+    ensures { λ r. ⌜ called r (tables (now (stakes .exit)) (now (offers .exit)) (now (books .exit))) (now (answer .exit)) ≡ applied (tables (now (stakes .entry)) (now (offers .entry)) (now (books .entry))) (now (bytes .entry)) (now (answer .entry)) ⌝ }
+{
+    if (bytes.len() != RECORD) | (answer.len() != ANSWER) {
+        return MALFORMED;
+    }
+    let a = engine::apply(stakes, offers, books, log::read_record(bytes, 0));
+    tell_answer(answer, a)
+}
+
+// A question: kind 1 stake, 2 accrued, 3 pool, 4 stakers' count, 5 offer.
+#[no_mangle]
+pub extern "C" fn pasumorip_query(
+    stakes: &[u64],
+    offers: &[u64],
+    books: &[u64],
+    kind: u64,
+    pool: u64,
+    number: u64,
+    time: u64,
+    answer: &mut [u64],
+) -> u8
+    ensures { λ r. ⌜ told r (now (answer .exit)) ≡ questioned (tables (now (stakes .entry)) (now (offers .entry)) (now (books .entry))) kind pool number time (now (answer .entry)) ⌝ }
+{
+    if answer.len() != TOLD {
+        return MALFORMED;
+    }
+    let a = queries::ask(stakes, offers, books, kind, pool, number, time);
+    tell_two(answer, a)
+}
+
+// The records of a part of a log, run on any tables, which are tested once; what they print is written to `text`.
+#[no_mangle]
+pub extern "C" fn pasumorip_replay(
+    stakes: &mut [u64],
+    offers: &mut [u64],
+    books: &mut [u64],
+    records: &[u8],
+    text: &mut [u8],
+    progress: &mut [u64],
+) -> u8
+    ensures { λ r. ⌜ ran r (tables (now (stakes .exit)) (now (offers .exit)) (now (books .exit))) (now (text .exit)) (now (progress .exit)) ≡ replayedFrom (tables (now (stakes .entry)) (now (offers .entry)) (now (books .entry))) (now (records .entry)) (now (text .entry)) (now (progress .entry)) ⌝ }
+{
+    if progress.len() != PROGRESS {
+        return MALFORMED;
+    }
+    let number = progress[0];
+    if MOST_RECORDS < number {
+        return MALFORMED;
+    }
+    if !books::tables_well_formed(stakes, offers, books) {
+        return BAD_TABLES;
+    }
+    let done = history::replay(stakes, offers, books, records, text, number);
+    tell_progress(progress, done);
+    0
+}
+
+// The pool that an invoice's risk falls to: 0 Conservative, 1 Balanced, 2 Aggressive.
+#[no_mangle]
+pub extern "C" fn pasumorip_assess_risk(age: u64, repayments: u32, defaults: u32, amount: i64) -> u8
+    ensures { λ r. ⌜ r ≡ assessRisk age repayments defaults amount ⌝ }
+{
+    rules::assess_risk(age, repayments, defaults, amount) as u8
+}

@@ -1,0 +1,98 @@
+/* Pasumorip: a proved settlement engine for pools of stakes. The functions of libpasumorip.a, for C.
+ *
+ * The caller lends three tables of 64-bit words and keeps them; the library keeps nothing and calls nothing. Whatever the words, bytes and
+ * arguments are, each function ends and answers a code. A call that answers a code other than PASUMORIP_DONE has changed no bit of the
+ * tables. Tables that were lent with any words at all are tested, and refused with PASUMORIP_BAD_TABLES, never trusted.
+ *
+ * What a caller owes: pointers to as many elements as the length beside them says, aligned for their type, and no two of the lent parts
+ * that overlap. A length of 0 still wants a pointer that is not null.
+ *
+ * Tables. Rows come first, ascending by pool and then by number; unused rows are all zero. Pools: 0 Conservative, 1 Balanced,
+ * 2 Aggressive, 3 flat. Numbers marked (signed) are in two's complement.
+ *   stakes  1 to 1,024 rows of 5 words: pool, account, stake (signed), since, accrual
+ *   offers  1 to 512 rows of 4 words: pool, offer, reserved, paid
+ *   books   12 words: balances of pools 0 to 3 (signed), unpaid reserved sums of pools 0 to 3, admin, payout caller (0: none), paused (0 or
+ *           1), rate of the flat pool in basis points
+ */
+#ifndef PASUMORIP_H
+#define PASUMORIP_H
+
+#include <stddef.h>
+#include <stdint.h>
+
+#ifdef __cplusplus
+extern "C" {
+#endif
+
+enum pasumorip_code {
+    PASUMORIP_DONE = 0,
+    PASUMORIP_MALFORMED = 1,            /* the call itself: a field out of range, or an unused one that is not 0 */
+    PASUMORIP_BAD_TABLES = 2,           /* the lent tables are not well formed */
+    PASUMORIP_PAUSED = 3,
+    PASUMORIP_NO_PAYER = 4,             /* no payout caller is set */
+    PASUMORIP_NOT_ALLOWED = 5,          /* the signer is not the staker, payout caller or admin needed */
+    PASUMORIP_INVALID_INPUT = 6,        /* amount 0 or less, or a stake that would be below 1,000,000 */
+    PASUMORIP_NO_REGISTRY = 7,
+    PASUMORIP_INVALID_TRANSITION = 8,   /* the invoice is not Defaulted */
+    PASUMORIP_INSUFFICIENT_BALANCE = 9, /* a withdrawal above the stake, or a claim with no cover left */
+    PASUMORIP_OVER_LIMIT = 10,
+    PASUMORIP_TABLE_FULL = 11
+};
+
+enum {
+    PASUMORIP_STAKE_WORDS = 5,
+    PASUMORIP_OFFER_WORDS = 4,
+    PASUMORIP_BOOKS_WORDS = 12,
+    PASUMORIP_HEAD_BYTES = 16,
+    PASUMORIP_RECORD_BYTES = 48,
+    PASUMORIP_ANSWER_WORDS = 9,
+    PASUMORIP_TOLD_WORDS = 3,
+    PASUMORIP_PROGRESS_WORDS = 3,
+    PASUMORIP_LONGEST_TEXT = 178
+};
+
+/* Clears every row and figure: the given admin, no payout caller, unpaused, rate 0. Admin 0 is refused with MALFORMED, lengths outside
+ * the limits with BAD_TABLES. */
+uint8_t pasumorip_fresh(uint64_t *stakes, size_t stakes_words, uint64_t *offers, size_t offers_words, uint64_t *books, size_t books_words,
+                        uint64_t admin);
+
+/* The same with the admin of a log's head: 16 bytes, `POL`, version 1 (16 bits), three zero bytes, admin (64 bits), little-endian. Any
+ * other head is refused with MALFORMED. */
+uint8_t pasumorip_open(uint64_t *stakes, size_t stakes_words, uint64_t *offers, size_t offers_words, uint64_t *books, size_t books_words,
+                       const uint8_t *head, size_t head_bytes);
+
+/* One call, as a log's record of 48 bytes, little-endian: operation, pool, registry's reply (one byte each), five zero bytes, then now,
+ * signer, subject, other, amount (signed), 64 bits each. Operations: 1 stake, 2 withdraw (subject the staker), 3 pay (subject the invoice,
+ * other the beneficiary), 4 reserve, 5 claim (subject the offer, claim's other the lender), 6 rate (pool 3, amount the rate), 7 pause,
+ * 8 unpause, 9 payout caller (subject).
+ * Writes 9 words to answer: code, first, second (both signed), then for each of two transfers its kind (0 none, 1 in, 2 out), account and
+ * amount. Returns the code. A record of another length, or an answer of another, is refused with MALFORMED and nothing is written. */
+uint8_t pasumorip_apply(uint64_t *stakes, size_t stakes_words, uint64_t *offers, size_t offers_words, uint64_t *books, size_t books_words,
+                        const uint8_t *record, size_t record_bytes, uint64_t *answer, size_t answer_words);
+
+/* One question. kind 1: an account's stake in a pool. 2: its accrual at a time. 3: a pool's balance and unpaid reserved sum. 4: its number
+ * of stakers. 5: what is reserved for an offer in a pool, and what of it is paid. `number` is the account or the offer; fields that a kind
+ * does not use are 0. Writes 3 words to answer: code, first, second (both signed). Returns the code; an answer of another length is refused
+ * with MALFORMED and nothing is written. */
+uint8_t pasumorip_query(const uint64_t *stakes, size_t stakes_words, const uint64_t *offers, size_t offers_words, const uint64_t *books,
+                        size_t books_words, uint64_t kind, uint64_t pool, uint64_t number, uint64_t time, uint64_t *answer,
+                        size_t answer_words);
+
+/* The records of a part of a log, one after the other. The tables are tested once. Runs whole records while one is there and at least
+ * PASUMORIP_LONGEST_TEXT bytes of text are left, and writes what document 01's replay prints of each: its number, code and two numbers, then
+ * its transfers. progress has 3 words: records run in all (in: before this part, at most 2^63; out: after it), bytes of the records taken
+ * (a multiple of 48), bytes of text written. Bytes of text behind these stay as they were.
+ * A progress of another length, or more records before, is refused with MALFORMED; tables that are not well formed with BAD_TABLES: then
+ * nothing is written. */
+uint8_t pasumorip_replay(uint64_t *stakes, size_t stakes_words, uint64_t *offers, size_t offers_words, uint64_t *books, size_t books_words,
+                         const uint8_t *records, size_t record_bytes, uint8_t *text, size_t text_bytes, uint64_t *progress,
+                         size_t progress_words);
+
+/* The pool that an invoice's risk falls to: 0 Conservative, 1 Balanced, 2 Aggressive. Age in seconds. */
+uint8_t pasumorip_assess_risk(uint64_t age, uint32_t repayments, uint32_t defaults, int64_t amount);
+
+#ifdef __cplusplus
+}
+#endif
+
+#endif

@@ -1,0 +1,14 @@
+#include "harness.h"
+
+int main(void)
+{
+    part("sample", sample);
+    part("figures", figures);
+    part("losses", losses);
+    part("lengths", lengths);
+    part("lent words", lent_words);
+    part("questions", questions);
+    part("heads", heads);
+    part("risk", risk);
+    return all_held() ? 0 : 1;
+}
