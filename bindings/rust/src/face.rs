@@ -1,0 +1,149 @@
+//! The library's C functions, and the same over slices: all unsafe code of this crate.
+//!
+//! A function of the library asks for valid pointers that do not overlap, and for nothing else.
+
+/// The three lent tables, to be written.
+pub struct Lent<'a> {
+    pub stakes: &'a mut [u64],
+    pub offers: &'a mut [u64],
+    pub books: &'a mut [u64],
+}
+
+/// The three lent tables, to be read.
+pub struct Shown<'a> {
+    pub stakes: &'a [u64],
+    pub offers: &'a [u64],
+    pub books: &'a [u64],
+}
+
+/// What a query asks for: its kind, and 0 for each field that the kind does not use.
+#[derive(Clone, Copy, Debug, PartialEq, Eq)]
+pub struct Question {
+    pub kind: u64,
+    pub pool: u64,
+    pub number: u64,
+    pub time: u64,
+}
+
+mod c {
+    extern "C" {
+        pub fn pasumorip_fresh(
+            stakes: *mut u64,
+            stakes_words: usize,
+            offers: *mut u64,
+            offers_words: usize,
+            books: *mut u64,
+            books_words: usize,
+            admin: u64,
+        ) -> u8;
+        pub fn pasumorip_open(
+            stakes: *mut u64,
+            stakes_words: usize,
+            offers: *mut u64,
+            offers_words: usize,
+            books: *mut u64,
+            books_words: usize,
+            head: *const u8,
+            head_bytes: usize,
+        ) -> u8;
+        pub fn pasumorip_apply(
+            stakes: *mut u64,
+            stakes_words: usize,
+            offers: *mut u64,
+            offers_words: usize,
+            books: *mut u64,
+            books_words: usize,
+            record: *const u8,
+            record_bytes: usize,
+            answer: *mut u64,
+            answer_words: usize,
+        ) -> u8;
+        pub fn pasumorip_query(
+            stakes: *const u64,
+            stakes_words: usize,
+            offers: *const u64,
+            offers_words: usize,
+            books: *const u64,
+            books_words: usize,
+            kind: u64,
+            pool: u64,
+            number: u64,
+            time: u64,
+            answer: *mut u64,
+            answer_words: usize,
+        ) -> u8;
+        pub fn pasumorip_replay(
+            stakes: *mut u64,
+            stakes_words: usize,
+            offers: *mut u64,
+            offers_words: usize,
+            books: *mut u64,
+            books_words: usize,
+            records: *const u8,
+            record_bytes: usize,
+            text: *mut u8,
+            text_bytes: usize,
+            progress: *mut u64,
+            progress_words: usize,
+        ) -> u8;
+        pub fn pasumorip_assess_risk(age: u64, repayments: u32, defaults: u32, amount: i64) -> u8;
+    }
+}
+
+/// A call of a function whose first six arguments are the lent tables.
+macro_rules! lend {
+    ($function:ident, $tables:expr, $($argument:expr),+) => {{
+        let Lent { stakes, offers, books } = $tables;
+        let (stakes_words, offers_words, books_words) = (stakes.len(), offers.len(), books.len());
+        let (stakes, offers, books) = (stakes.as_mut_ptr(), offers.as_mut_ptr(), books.as_mut_ptr());
+        // SAFETY: every pointer and length is of one slice, and slices that are written overlap no other.
+        unsafe { c::$function(stakes, stakes_words, offers, offers_words, books, books_words, $($argument),+) }
+    }};
+}
+
+pub fn fresh(tables: Lent, admin: u64) -> u8 {
+    lend!(pasumorip_fresh, tables, admin)
+}
+
+pub fn open(tables: Lent, head: &[u8]) -> u8 {
+    lend!(pasumorip_open, tables, head.as_ptr(), head.len())
+}
+
+pub fn apply(tables: Lent, record: &[u8], answer: &mut [u64]) -> u8 {
+    lend!(pasumorip_apply, tables, record.as_ptr(), record.len(), answer.as_mut_ptr(), answer.len())
+}
+
+pub fn replay(tables: Lent, records: &[u8], text: &mut [u8], progress: &mut [u64]) -> u8 {
+    let (text_bytes, progress_words) = (text.len(), progress.len());
+    let (text, progress) = (text.as_mut_ptr(), progress.as_mut_ptr());
+    lend!(pasumorip_replay, tables, records.as_ptr(), records.len(), text, text_bytes, progress, progress_words)
+}
+
+pub fn query(Shown { stakes, offers, books }: Shown, question: Question, answer: &mut [u64]) -> u8 {
+    let Question { kind, pool, number, time } = question;
+    let (stakes_words, offers_words, books_words) = (stakes.len(), offers.len(), books.len());
+    let (stakes, offers, books) = (stakes.as_ptr(), offers.as_ptr(), books.as_ptr());
+    let (answer_words, answer) = (answer.len(), answer.as_mut_ptr());
+    // SAFETY: as above; the tables are only read.
+    unsafe {
+        c::pasumorip_query(
+            stakes,
+            stakes_words,
+            offers,
+            offers_words,
+            books,
+            books_words,
+            kind,
+            pool,
+            number,
+            time,
+            answer,
+            answer_words,
+        )
+    }
+}
+
+pub fn assess_risk(age: u64, repayments: u32, defaults: u32, amount: i64) -> u8 {
+    // SAFETY: there is no pointer.
+    unsafe { c::pasumorip_assess_risk(age, repayments, defaults, amount) }
+}
