@@ -148,39 +148,33 @@ pub fn read(env: &Env) -> Books {
     }
 }
 
-/// Puts one figure into the flat map or the tiers' map.
-fn put<V: Stored>(env: &Env, flat: Symbol, tiers: Symbol, row: (u8, Address), value: V) {
-    let (pool, staker) = row;
-    let persistent = env.storage().persistent();
-    match tier(pool) {
-        Some(tier) => {
-            let mut entries: Map<TierStakeKey, V> = map(env, tiers.clone());
-            entries.set(TierStakeKey { staker, tier }, value);
-            persistent.set(&tiers, &entries);
-        }
-        None => {
-            let mut entries: Map<Address, V> = map(env, flat.clone());
-            entries.set(staker, value);
-            persistent.set(&flat, &entries);
+/// Puts one figure of every row into the flat map and the tiers' map, each stored once.
+fn put<V: Stored>(env: &Env, flat: Symbol, tiers: Symbol, rows: impl Iterator<Item = ((u8, u64), V)>) {
+    let mut flat_entries: Map<Address, V> = Map::new(env);
+    let mut tier_entries: Map<TierStakeKey, V> = Map::new(env);
+    for ((pool, account), value) in rows {
+        let staker = Address(account);
+        match tier(pool) {
+            Some(tier) => tier_entries.set(TierStakeKey { staker, tier }, value),
+            None => flat_entries.set(staker, value),
         }
     }
+    env.storage().persistent().set(&flat, &flat_entries);
+    env.storage().persistent().set(&tiers, &tier_entries);
 }
 
-fn put_offer(env: &Env, flat: Symbol, tiers: Symbol, row: (u8, Symbol), value: i128) {
-    let (pool, offer_id) = row;
-    let persistent = env.storage().persistent();
-    match tier(pool) {
-        Some(tier) => {
-            let mut entries: Map<TierOfferKey, i128> = map(env, tiers.clone());
-            entries.set(TierOfferKey { offer_id, tier }, value);
-            persistent.set(&tiers, &entries);
-        }
-        None => {
-            let mut entries: Map<Symbol, i128> = map(env, flat.clone());
-            entries.set(offer_id, value);
-            persistent.set(&flat, &entries);
+fn put_offers(env: &Env, flat: Symbol, tiers: Symbol, rows: impl Iterator<Item = ((u8, u64), i128)>) {
+    let mut flat_entries: Map<Symbol, i128> = Map::new(env);
+    let mut tier_entries: Map<TierOfferKey, i128> = Map::new(env);
+    for ((pool, offer), value) in rows {
+        let offer_id = Symbol::Number(offer);
+        match tier(pool) {
+            Some(tier) => tier_entries.set(TierOfferKey { offer_id, tier }, value),
+            None => flat_entries.set(offer_id, value),
         }
     }
+    env.storage().persistent().set(&flat, &flat_entries);
+    env.storage().persistent().set(&tiers, &tier_entries);
 }
 
 fn put_pool(env: &Env, pool: u8, balance: i128, reserved: i128) {
@@ -207,19 +201,17 @@ pub fn write(books: &Books) -> Env {
     if caller != 0 {
         set(Operation::PayoutCaller { caller });
     }
-    for row in &books.stakes {
-        let staker = || (row.pool, Address(row.account));
-        if row.stake != 0 {
-            put(&env, symbol_short!("stakes"), symbol_short!("tstakes"), staker(), row.stake);
-            put(&env, symbol_short!("stk_ts"), symbol_short!("tstk_ts"), staker(), row.since);
-        }
-        put(&env, symbol_short!("yld_acc"), symbol_short!("tyld_acc"), staker(), row.accrual);
-    }
-    for row in &books.offers {
-        let offer = || (row.pool, Symbol::Number(row.offer));
-        put_offer(&env, symbol_short!("resrvd"), symbol_short!("tresrv"), offer(), row.reserved);
-        put_offer(&env, symbol_short!("paid"), symbol_short!("tpaid"), offer(), row.paid);
-    }
+    let staked = || books.stakes.iter().filter(|row| row.stake != 0);
+    let stakes = staked().map(|row| ((row.pool, row.account), row.stake));
+    let since = staked().map(|row| ((row.pool, row.account), row.since));
+    let accruals = books.stakes.iter().map(|row| ((row.pool, row.account), row.accrual));
+    put(&env, symbol_short!("stakes"), symbol_short!("tstakes"), stakes);
+    put(&env, symbol_short!("stk_ts"), symbol_short!("tstk_ts"), since);
+    put(&env, symbol_short!("yld_acc"), symbol_short!("tyld_acc"), accruals);
+    let reserved = books.offers.iter().map(|row| ((row.pool, row.offer), row.reserved));
+    let paid = books.offers.iter().map(|row| ((row.pool, row.offer), row.paid));
+    put_offers(&env, symbol_short!("resrvd"), symbol_short!("tresrv"), reserved);
+    put_offers(&env, symbol_short!("paid"), symbol_short!("tpaid"), paid);
     for pool in 0..POOLS {
         put_pool(&env, pool, books.balances[usize::from(pool)], books.unpaid[usize::from(pool)]);
     }

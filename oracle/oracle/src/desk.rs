@@ -8,6 +8,7 @@ use crate::record::Record;
 use crate::tables::Tables;
 
 /// Tables that are not well formed stay so, since every call on them is refused.
+#[derive(Clone)]
 pub enum Desk {
     Good(Engine),
     Bad(Tables),

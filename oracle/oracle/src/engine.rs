@@ -10,9 +10,18 @@ use crate::tables::{Rooms, Tables};
 use soroban_sdk::token::Transfer;
 use soroban_sdk::Env;
 
+/// The module's environment and the books that it holds, read once after each call.
 pub struct Engine {
     env: Env,
+    books: Books,
     rooms: Rooms,
+}
+
+/// A copy has an environment of its own.
+impl Clone for Engine {
+    fn clone(&self) -> Engine {
+        Engine { env: self.env_at(0), books: self.books.clone(), rooms: self.rooms }
+    }
 }
 
 impl Engine {
@@ -23,21 +32,25 @@ impl Engine {
         } else if !rooms.lent() {
             Err(Code::BadTables)
         } else {
-            Ok(Engine { env: module::construct(admin), rooms })
+            Ok(Engine::over(module::construct(admin), rooms))
         }
     }
 
     pub fn load(tables: &Tables) -> Result<Engine, Code> {
         let books = tables.books().ok_or(Code::BadTables)?;
-        Ok(Engine { env: books::write(&books), rooms: tables.rooms() })
+        Ok(Engine::over(books::write(&books), tables.rooms()))
     }
 
-    pub fn books(&self) -> Books {
-        books::read(&self.env)
+    fn over(env: Env, rooms: Rooms) -> Engine {
+        Engine { books: books::read(&env), env, rooms }
+    }
+
+    pub fn books(&self) -> &Books {
+        &self.books
     }
 
     pub fn tables(&self) -> Tables {
-        Tables::of(&self.books(), self.rooms)
+        Tables::of(&self.books, self.rooms)
     }
 
     /// The module's environment at a time, for a look that changes nothing.
@@ -47,8 +60,8 @@ impl Engine {
 
     pub fn call(&mut self, record: &Record) -> Answer {
         match self.settle(record) {
-            Ok((answer, after)) => {
-                self.env = after;
+            Ok((answer, env, books)) => {
+                (self.env, self.books) = (env, books);
                 answer
             }
             Err(code) => Answer::refusal(code),
@@ -56,7 +69,7 @@ impl Engine {
     }
 
     /// Runs the module on a copy, which is thrown away where the call is refused.
-    fn settle(&self, record: &Record) -> Result<(Answer, Env), Code> {
+    fn settle(&self, record: &Record) -> Result<(Answer, Env, Books), Code> {
         let operation = Operation::of(record).ok_or(Code::Malformed)?;
         let env = self.env.fork(record.now);
         let told = module::run(&env, record.signer, &operation);
@@ -67,12 +80,13 @@ impl Engine {
         }
         let (first, second) = told?;
         let transfers = env.transfers();
-        self.within_limits(&books::read(&env), &transfers)?;
+        let books = books::read(&env);
+        self.within_limits(&books, &transfers)?;
         let answer = Answer {
             transfers: transfers.iter().map(|transfer| way(&env, transfer)).collect(),
             ..Answer::told(narrow(first), narrow(second))
         };
-        Ok((answer, env))
+        Ok((answer, env, books))
     }
 
     /// The added limits that only the outcome shows: figures, then rooms.
@@ -91,7 +105,7 @@ impl Engine {
     }
 }
 
-fn way(env: &Env, transfer: &Transfer) -> Way {
+pub(crate) fn way(env: &Env, transfer: &Transfer) -> Way {
     if transfer.from == env.current_contract_address() {
         Way::Out(transfer.to.0, narrow(transfer.amount))
     } else {
@@ -99,6 +113,6 @@ fn way(env: &Env, transfer: &Transfer) -> Way {
     }
 }
 
-fn narrow(figure: i128) -> i64 {
+pub(crate) fn narrow(figure: i128) -> i64 {
     figure.try_into().expect("a figure within its limit has 64 bits")
 }

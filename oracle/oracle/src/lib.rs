@@ -2,6 +2,7 @@
 //! is what document 01 marks as added: numbers and tables, limits, the order of codes, the log.
 
 mod answer;
+mod bare;
 mod books;
 mod desk;
 mod engine;
@@ -17,13 +18,15 @@ mod tables;
 mod text;
 
 pub use answer::{Answer, Code, Way};
+pub use bare::Bare;
 pub use books::{Books, OfferRow, Settings, StakeRow};
 pub use desk::Desk;
 pub use engine::Engine;
 pub use log::{head, print_replay, Log};
 pub use operation::Operation;
 pub use question::{assess_risk, Question};
-pub use random::random_log;
+pub use random::{random_log, Author};
 pub use record::Record;
+pub use rng::Rng;
 pub use tables::{Rooms, Tables};
 pub use text::{parse_questions, parse_tables, print_tables, read_log, write_log};

@@ -99,6 +99,14 @@ fn dispatch(env: &Env, signer: &Address, operation: &Operation) -> (i128, i128) 
     }
 }
 
+/// What the module says is accrued at the environment's time.
+pub fn accrued(env: Env, pool: u8, account: u64) -> i128 {
+    match tier(pool) {
+        Some(tier) => Module::accrued_tier_yield(env, Address(account), tier),
+        None => Module::accrued_yield(env, Address(account)),
+    }
+}
+
 /// The registry's reply is the call's: 0 not configured, 1 not Defaulted, 2 Defaulted.
 fn configure_registry(env: &Env, reply: u8) {
     let registry = symbol_short!("registry");

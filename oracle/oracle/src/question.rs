@@ -4,7 +4,7 @@ use crate::answer::{Answer, Code};
 use crate::books::pool_figures;
 use crate::engine::Engine;
 use crate::limits::{LAST_TIME, LIMIT, POOLS};
-use crate::module::tier;
+use crate::module::{self, tier};
 use insurance::InsuranceContract as Module;
 use soroban_sdk::{Address, Env};
 
@@ -60,14 +60,10 @@ impl Engine {
     /// Added: a stake below 0 shows what is banked alone, where the module lowers it by a running yield.
     fn accrued(&self, pool: u8, account: u64, now: u64) -> i128 {
         if self.stake(pool, account) < 0 {
-            let rows = self.books().stakes;
+            let rows = &self.books().stakes;
             return rows.iter().find(|row| (row.pool, row.account) == (pool, account)).map_or(0, |row| row.accrual);
         }
-        let env = self.env_at(now);
-        match tier(pool) {
-            Some(tier) => Module::accrued_tier_yield(env, Address(account), tier),
-            None => Module::accrued_yield(env, Address(account)),
-        }
+        module::accrued(self.env_at(now), pool, account)
     }
 
     /// The module counts its flat pool only; a tier's count is of its rows.
@@ -79,7 +75,7 @@ impl Engine {
     }
 
     fn offer(&self, pool: u8, offer: u64) -> (i128, i128) {
-        let rows = self.books().offers;
+        let rows = &self.books().offers;
         let row = rows.iter().find(|row| (row.pool, row.offer) == (pool, offer));
         row.map_or((0, 0), |row| (row.reserved, row.paid))
     }

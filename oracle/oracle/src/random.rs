@@ -11,8 +11,6 @@ use crate::record::Record;
 use crate::rng::Rng;
 use crate::tables::Rooms;
 
-const ADMIN: u64 = 1;
-
 /// Accounts at both ends of their range.
 const ACCOUNTS: [u64; 14] = [2, 3, 4, 5, 6, 7, 8, 9, 10, 11, 12, 1 << 32, 1 << 63, u64::MAX];
 
@@ -24,38 +22,53 @@ const MIX: [u8; 40] = [
     8, 9,
 ];
 
-/// The log follows an engine of the same rooms, so that it knows what there is to withdraw, to claim and to share.
-struct Author {
+/// How many calls there are to one with something wrong.
+const CALLS_PER_SLIP: u64 = 12;
+
+/// Writes calls for the books that it is shown, so that it knows what there is to withdraw, to claim and to share.
+pub struct Author {
     rng: Rng,
-    engine: Engine,
     books: Books,
     clock: u64,
     /// How many accounts and offers beyond the fixed ones take part.
     crowd: u64,
+    /// Whether it began from books with rows, which then take part too.
+    settled: bool,
+    pub calls_per_slip: u64,
 }
 
 /// A log of `count` records after its head.
 pub fn random_log(seed: u64, count: usize, rooms: Rooms) -> Vec<u8> {
-    let mut rng = Rng(seed);
-    let engine = Engine::fresh(ADMIN, rooms).expect("the rooms are within their limits");
-    let crowd = rng.pick(&[0, 0, 0, 20, 2_000]);
-    let clock = rng.pick(&[0, 1_000, 1_700_000_000]);
-    let books = engine.books();
-    let mut author = Author { rng, engine, books, clock, crowd };
+    const ADMIN: u64 = 1;
+    let mut engine = Engine::fresh(ADMIN, rooms).expect("the rooms are within their limits");
+    let mut author = Author::new(seed, engine.books().clone());
     let mut bytes = head(ADMIN).to_vec();
     for _ in 0..count {
         let record = author.record();
-        author.engine.call(&record);
-        author.books = author.engine.books();
+        engine.call(&record);
+        author.see(engine.books().clone());
         bytes.extend(record.to_bytes());
     }
     bytes
 }
 
 impl Author {
-    fn record(&mut self) -> Record {
+    /// For a history that begins from these books.
+    pub fn new(seed: u64, books: Books) -> Author {
+        let mut rng = Rng(seed);
+        let crowd = rng.pick(&[0, 0, 0, 20, 2_000]);
+        let clock = rng.pick(&[0, 1_000, 1_700_000_000]);
+        let settled = !books.stakes.is_empty() || !books.offers.is_empty();
+        Author { rng, books, clock, crowd, settled, calls_per_slip: CALLS_PER_SLIP }
+    }
+
+    pub fn see(&mut self, books: Books) {
+        self.books = books;
+    }
+
+    pub fn record(&mut self) -> Record {
         let mut record = self.plain();
-        if self.rng.one_in(12) {
+        if self.rng.one_in(self.calls_per_slip) {
             self.slip(&mut record);
         }
         record
@@ -64,7 +77,7 @@ impl Author {
     /// A call that is well formed, rightly signed and, where there is something to act on, acts on it.
     fn plain(&mut self) -> Record {
         let settings = &self.books.settings;
-        let (caller, paused) = (settings.caller, settings.paused);
+        let (admin, caller, paused) = (settings.admin, settings.caller, settings.paused);
         let now = self.now();
         let pool = self.rng.below(u64::from(POOLS)) as u8;
         let operation = if paused && self.rng.one_in(3) {
@@ -74,7 +87,7 @@ impl Author {
         } else {
             self.rng.pick(&MIX)
         };
-        let mut record = Record { operation, pool, now, signer: ADMIN, ..Record::default() };
+        let mut record = Record { operation, pool, now, signer: admin, ..Record::default() };
         match operation {
             1 => self.stake(&mut record),
             2 => self.withdraw(&mut record),
@@ -97,6 +110,10 @@ impl Author {
 
     /// A clock that mostly runs on, at times stands or goes back, and seldom shows its last second.
     fn now(&mut self) -> u64 {
+        if self.settled && !self.books.stakes.is_empty() && self.rng.one_in(4) {
+            let since = self.rng.pick(&self.books.stakes).since;
+            return self.rng.pick(&[since, since.saturating_sub(1), since + 1, since + 31_536_000]).min(LAST_TIME);
+        }
         let step = self.rng.pick(&[0, 0, 1, 60, 1_576, 1_577, 86_400, 2_592_000, 31_536_000]);
         self.clock = (self.clock + self.rng.below(step + 1)).min(LAST_TIME);
         match self.rng.below(24) {
@@ -108,7 +125,9 @@ impl Author {
     }
 
     fn account(&mut self) -> u64 {
-        if self.crowd > 0 && self.rng.one_in(2) {
+        if self.settled && !self.books.stakes.is_empty() && !self.rng.one_in(4) {
+            self.rng.pick(&self.books.stakes).account
+        } else if self.crowd > 0 && self.rng.one_in(2) {
             100 + self.rng.below(self.crowd)
         } else {
             self.rng.pick(&ACCOUNTS)
@@ -116,7 +135,9 @@ impl Author {
     }
 
     fn offer(&mut self) -> u64 {
-        if self.crowd > 0 && self.rng.one_in(2) {
+        if self.settled && !self.books.offers.is_empty() && !self.rng.one_in(4) {
+            self.rng.pick(&self.books.offers).offer
+        } else if self.crowd > 0 && self.rng.one_in(2) {
             100 + self.rng.below(self.crowd)
         } else {
             self.rng.pick(&OFFERS)

@@ -3,7 +3,7 @@
 pub struct Rng(pub u64);
 
 impl Rng {
-    pub fn next(&mut self) -> u64 {
+    pub fn word(&mut self) -> u64 {
         self.0 = self.0.wrapping_add(0x9e37_79b9_7f4a_7c15);
         let mut z = self.0;
         z = (z ^ (z >> 30)).wrapping_mul(0xbf58_476d_1ce4_e5b9);
@@ -13,13 +13,13 @@ impl Rng {
 
     /// From 0 to below `n`.
     pub fn below(&mut self, n: u64) -> u64 {
-        self.next() % n
+        self.word() % n
     }
 
     /// From `low` to `high`, both included.
     pub fn between(&mut self, low: i128, high: i128) -> i128 {
         let width = (high - low).max(0) as u128 + 1;
-        low + (u128::from(self.next()) % width) as i128
+        low + (u128::from(self.word()) % width) as i128
     }
 
     pub fn one_in(&mut self, n: u64) -> bool {

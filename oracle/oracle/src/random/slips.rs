@@ -1,6 +1,6 @@
 //! One thing wrong with a call.
 
-use super::{Author, ADMIN};
+use super::Author;
 use crate::limits::{GREATEST_RATE, LAST_TIME, LIMIT};
 use crate::record::Record;
 
@@ -15,7 +15,7 @@ impl Author {
             5 => record.signer = 0,
             6 => record.subject = if record.subject == 0 { 7 } else { 0 },
             7 => record.other = if record.other == 0 { 7 } else { 0 },
-            8..=10 => record.signer = self.rng.pick(&[ADMIN, 2, 3, 7, 1 << 63]),
+            8..=10 => record.signer = self.rng.pick(&[self.books.settings.admin, 2, 3, 7, 1 << 63]),
             11 => record.pool = self.rng.pick(&[0, 1, 2, 3]),
             12 if record.operation == 6 => record.amount = self.rng.pick(&[GREATEST_RATE + 1, 1 << 32, i64::MAX, -1]),
             _ => record.amount = self.rng.pick(&EDGES),

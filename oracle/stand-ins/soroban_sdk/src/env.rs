@@ -29,6 +29,13 @@ impl Env {
         Env { state: Rc::new(RefCell::new(state)) }
     }
 
+    /// The next call on this same storage: a new time and no transfers yet.
+    pub fn begin(&self, timestamp: u64) {
+        let mut state = self.state.borrow_mut();
+        state.timestamp = timestamp;
+        state.transfers.clear();
+    }
+
     pub fn transfers(&self) -> Vec<Transfer> {
         self.state.borrow().transfers.clone()
     }

@@ -1,0 +1,71 @@
+//! What a difference is and how it is shown.
+
+use crate::words::Words;
+use oracle::{print_tables, read_log, Record};
+use std::fmt::{self, Debug};
+
+/// One comparison that failed.
+#[derive(Debug)]
+pub struct Difference {
+    what: String,
+    oracle: String,
+    library: String,
+}
+
+/// Fine where both are equal.
+pub fn same<T: PartialEq + Debug>(what: &str, oracle: T, library: T) -> Result<(), Difference> {
+    if oracle == library {
+        return Ok(());
+    }
+    Err(Difference { what: what.to_string(), oracle: format!("{oracle:?}"), library: format!("{library:?}") })
+}
+
+/// The first word that differs, since whole tables are too long to read.
+pub fn same_words(what: &str, oracle: &[u64], library: &[u64]) -> Result<(), Difference> {
+    if oracle == library {
+        return Ok(());
+    }
+    let at = oracle.iter().zip(library).position(|(a, b)| a != b).unwrap_or(oracle.len().min(library.len()));
+    let word = |words: &[u64]| words.get(at).map(|word| (*word, *word as i64));
+    same(&format!("{what}, word {at} of {}", oracle.len()), word(oracle), word(library))
+}
+
+/// The first line that differs.
+pub fn same_text(what: &str, oracle: &[u8], library: &[u8]) -> Result<(), Difference> {
+    let lines = |text: &[u8]| String::from_utf8_lossy(text).lines().map(str::to_string).collect::<Vec<_>>();
+    if oracle == library {
+        return Ok(());
+    }
+    let (oracle, library) = (lines(oracle), lines(library));
+    let at = oracle.iter().zip(&library).position(|(a, b)| a != b).unwrap_or(oracle.len().min(library.len()));
+    same(&format!("{what}, line {}", at + 1), oracle.get(at), library.get(at))
+}
+
+impl fmt::Display for Difference {
+    fn fmt(&self, f: &mut fmt::Formatter) -> fmt::Result {
+        writeln!(f, "in {}\n  oracle:  {}\n  library: {}", self.what, self.oracle, self.library)
+    }
+}
+
+/// A difference, and the calls from given tables that lead to it.
+pub struct Failure {
+    pub origin: String,
+    pub start: Words,
+    pub records: Vec<Record>,
+    pub difference: Difference,
+}
+
+impl fmt::Display for Failure {
+    fn fmt(&self, f: &mut fmt::Formatter) -> fmt::Result {
+        writeln!(f, "DIFFERENCE ({}) {}", self.origin, self.difference)?;
+        let mut log = oracle::head(1).to_vec();
+        log.extend(self.records.iter().flat_map(|record| record.to_bytes()));
+        let text = read_log(&log);
+        writeln!(f, "calls, the fewest found ({}):", self.records.len())?;
+        text.lines().skip(1).try_for_each(|line| writeln!(f, "{line}"))?;
+        match self.start.tables() {
+            Some(tables) => write!(f, "from the tables:\n{}", print_tables(&tables)),
+            None => writeln!(f, "from the words: {:?}", self.start),
+        }
+    }
+}

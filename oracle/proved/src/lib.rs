@@ -1,0 +1,35 @@
+//! The proved library by its face for Rust (bindings/rust): slices in, codes of document 01 out. Any words may be lent, and any answer's
+//! length asked for.
+
+use pasumorip::face;
+
+/// Stakes, offers and books.
+pub type Lent<'a> = [&'a mut [u64]; 3];
+
+pub use face::Question as Query;
+
+fn lent([stakes, offers, books]: Lent) -> face::Lent {
+    face::Lent { stakes, offers, books }
+}
+
+pub fn fresh(tables: Lent, admin: u64) -> u8 {
+    face::fresh(lent(tables), admin)
+}
+
+pub fn open(tables: Lent, head: &[u8]) -> u8 {
+    face::open(lent(tables), head)
+}
+
+pub fn apply(tables: Lent, record: &[u8], answer: &mut [u64]) -> u8 {
+    face::apply(lent(tables), record, answer)
+}
+
+pub fn query([stakes, offers, books]: [&[u64]; 3], query: Query, answer: &mut [u64]) -> u8 {
+    face::query(face::Shown { stakes, offers, books }, query, answer)
+}
+
+pub fn replay(tables: Lent, records: &[u8], text: &mut [u8], progress: &mut [u64]) -> u8 {
+    face::replay(lent(tables), records, text, progress)
+}
+
+pub use face::assess_risk;
