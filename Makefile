@@ -1,21 +1,32 @@
-# make run: the main job. make test: the gate. make count: docs/PROOFS.md. make fmt: the layout.
+# make run: replays a log (LOG=path, or the sample Friday, which it then explains). make test: the gate. make long: a replay of a million records.
+# make count: docs/PROOFS.md. make fmt: the layout.
 # make oracle: the Rust over stand-ins. make vectors: the kept logs and their answers, made by it.
+# make compare [N=calls] [SEED=first] [THREADS=n]: the proved library against the oracle. make bench [N=records] [TURNS=n]: its speed.
 SHELL := /bin/bash
 .ONESHELL:
 .SHELLFLAGS := -eu -o pipefail -c
-.PHONY: run test count fmt kit oracle vectors
+.PHONY: run replay test long count fmt kit oracle vectors native compare bench
+
+LOG ?= $(firstword $(wildcard examples/friday.log) vectors/sample.log)
 
 # rt ends everything else in one line where it is missing
 kit:
 	@scripts/kit
 
-run: kit
-	@rt check figures > target.log 2>&1 || { cat target.log; rm -f target.log; exit 1; }
+# proves the program and what it stands on, where that has not been done yet
+replay: kit
+	@rt check replay > target.log 2>&1 || { cat target.log; rm -f target.log; exit 1; }
 	rm -f target.log
-	scripts/program figures
+
+run: replay
+	@scripts/replay "$(LOG)"
+	[ "$(LOG)" != examples/friday.log ] || scripts/explain "$(LOG)"
 
 test: kit
 	@scripts/gate
+
+long: replay
+	@scripts/long
 
 count: kit
 	@scripts/count
@@ -29,3 +40,21 @@ oracle:
 
 vectors: oracle
 	@vectors/make-vectors
+
+# The proved library for this machine, where PASUMORIP_LIB names no other folder that has one.
+native:
+	@scripts/module-text
+	[ -n "$${PASUMORIP_LIB:-}" ] || scripts/native-lib pasumorip > /dev/null
+
+compare: N ?= 100000
+compare: SEED ?= 1
+compare: THREADS ?=
+compare: native
+	@cargo build --quiet --offline --release --manifest-path oracle/Cargo.toml --package compare
+	oracle/target/release/compare $(N) $(SEED) $(THREADS)
+
+bench: N ?= 1000000
+bench: TURNS ?= 5
+bench: native
+	@cargo build --quiet --offline --release --manifest-path oracle/Cargo.toml --package measure
+	oracle/target/release/measure $(N) $(TURNS)
