@@ -1,5 +1,5 @@
 -- A call on words, by what its tests say.
-use mathlib.Core.Path.{_≡_, refl}
+use mathlib.Core.Path.{_≡_}
 use mathlib.Core.Bool.{true, false}
 use Rattle.rules.specs.declared.Call.{Call}
 use Rattle.rules.specs.Answers.{refusal, Malformed, BadTables}

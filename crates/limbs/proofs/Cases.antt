@@ -17,7 +17,6 @@ use Rattle.whole.specs.Shares.{share, dropped}
 use Rattle.whole.proofs.Shares.{share-size, dropped-size, share-signed, dropped-signed}
 use Rattle.whole.proofs.Words.{word-of}
 use Rattle.limbs.specs.MulDiv.{mulDiv, signedMulDiv}
-use Rattle.limbs.specs.declared.MulDiv.{MulDiv}
 use Rattle.limbs.specs.declared.MulDiv.the-variants.{Exact, TooLarge}
 
 -- ---- of words

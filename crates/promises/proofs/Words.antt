@@ -8,7 +8,7 @@ use native.Mathlib.Omega.{arith}
 use Rattle.rules.specs.Limits.{isNumber}
 use Rattle.rules.specs.Books.{fresh}
 use Rattle.rules.specs.Answers.{Plan, refused, does, refusal, freshCode, Malformed, BadTables}
-use Rattle.rules.specs.Step.{malformed, planOf, step}
+use Rattle.rules.specs.Step.{malformed, planOf}
 use Rattle.rules.proofs.Facts.{WellFormed}
 use Rattle.books.specs.Words.{Tables, booksOf, wordsOf, goodTables, result, acted, stepWords}
 use Rattle.books.specs.Fresh.{roomsOf, lent, renewed, freshWords}

@@ -1,9 +1,8 @@
 -- A question by its kind: which answer it is, and that another kind is malformed.
 use mathlib.Core.Path.{_≡_, refl, ap, _∙_}
-use mathlib.Core.Bool.{Bool, true, false, cond}
+use mathlib.Core.Bool.{true, false}
 use Prim.Native.Nat.{ℕ, zero, suc}
 use Rattle.rules.specs.Books.{Books}
-use Rattle.rules.specs.declared.Answer.{Answer}
 use Rattle.rules.specs.Answers.{refusal, Malformed}
 use Rattle.books.specs.Words.{Tables}
 use Rattle.queries.specs.Queries.{queryWords}

@@ -4,7 +4,7 @@ use mathlib.Core.Bool.{Bool, true, false, cond}
 use mathlib.Core.List.{List, [], _∷_}
 use Prim.Native.Nat.{ℕ, suc, _+_, _-_, _^_, _≤_, _<_}
 use native.Mathlib.Omega.{arith}
-use lib.Dec.{leb, ltb}
+use lib.Dec.{leb}
 use lib.IntN.{ℤ, pos}
 use lib.ListN.{length, getD}
 use mir.Syntax.{w64}
@@ -15,7 +15,6 @@ use Rattle.rules.specs.Limits.{limit, twoTo64}
 use Rattle.rules.specs.Terms.{yieldRate, bankAccruedYield, bankedAnswer}
 use Rattle.rules.specs.declared.terms.Banked.{Banked}
 use Rattle.rules.specs.declared.terms.Banked.the-variants.{To, OverLimit}
-use Rattle.rules.specs.declared.Answer.{Answer}
 use Rattle.rules.specs.Table.{count}
 use Rattle.rules.specs.Books.{StakeRow, OfferRow, balanceOf, unpaidOf, stakeAt, offerAt, bankedAt}
 use Rattle.rules.specs.Sharing.{sharer}

@@ -4,19 +4,18 @@ use mathlib.Core.Path.{_≡_, refl, sym, _∙_, ap}
 use Prim.Native.Nat.{ℕ, _+_, _-_, _*_, _/_, _^_, _≤_, _<_}
 use native.Mathlib.Nat.{zero-div, zero-mul}
 use native.Mathlib.Omega.{arith}
-use lib.Dec.{ltb, leb}
+use lib.Dec.{ltb}
 use lib.IntN.{ℤ, pos, natAbs}
 use lib.Signed.{ltZ}
-use borrow.Author.Tests.{le-leb, lt-leb, ltb-true, ltb-false}
+use borrow.Author.Tests.{le-leb, lt-leb, ltb-false}
 use mir.Syntax.{w64}
 use mir.Val.{ofZ}
 use Rattle.whole.specs.Whole.{up, dn}
-use Rattle.whole.proofs.Linear.{whole, one, abs, lt-true, lt-false}
+use Rattle.whole.proofs.Linear.{one, abs, lt-true, lt-false}
 use Rattle.whole.proofs.Words.{bits-low}
 use Rattle.whole.proofs.Shares.{share-is}
 use Rattle.rules.specs.Limits.{limit, yearDivisor}
 use Rattle.rules.specs.Terms.{elapsed, computeYield, bankAccruedYield, yieldAnswer, bankedAnswer}
-use Rattle.rules.specs.declared.terms.Yield.{Yield}
 use Rattle.rules.specs.declared.terms.Yield.the-variants.{Word, TooLarge}
 use Rattle.rules.specs.declared.terms.Banked.the-variants.{To, OverLimit}
 

@@ -10,7 +10,7 @@ use lib.Signed.{leZ, ltZ}
 use Rattle.whole.specs.Whole.{up}
 use Rattle.rules.specs.Limits.{limit, leastStake, greatestRate, flat}
 use Rattle.rules.specs.Books.{Books}
-use Rattle.rules.specs.Calls.{Account, Operation, Call, StakeCall, PayCall, ReserveCall, ClaimCall, RateCall, Stake, Withdraw, Pay, Reserve, Claim, Rate, Pause, Unpause, PayoutCaller, Unknown}
+use Rattle.rules.specs.Calls.{Account, Operation, Call, Stake, Withdraw, Pay, Reserve, Claim, Rate, Pause, Unpause, PayoutCaller, Unknown}
 use Rattle.rules.specs.Answers.{Plan, refused, does, _refuses_else_, enact, notBy, Malformed, Paused, NoPayer, NotAllowed, InvalidInput, NoRegistry, InvalidTransition, InsufficientBalance, OverLimit, TableFull}
 use Rattle.rules.specs.Stakes.{stakedRow, noStakeRoom, stake, overdrawn, yieldDue, unstake}
 use Rattle.rules.specs.Payouts.{asCaller, payable, lossOver, payOut, grantable, grantedRow, noOfferRoom, reservePayout, coverOf, claimable, claimPayout}

@@ -1,10 +1,9 @@
 -- A refused call answers its code, two zeros and no transfer, and leaves the books as they were. A malformed call is refused 1.
 use mathlib.Core.Path.{_≡_, refl}
 use mathlib.Core.Bool.{true}
-use Prim.Native.Nat.{ℕ}
 use lib.IntN.{pos}
 use Rattle.rules.specs.Books.{Books}
-use Rattle.rules.specs.Calls.{Call, Transfer}
+use Rattle.rules.specs.Calls.{Call}
 use Rattle.rules.specs.Answers.{Outcome, Plan, refused, does, outcome, refusal, enact, Malformed, _refuses_else_}
 use Rattle.rules.specs.Step.{malformed, planOf, step}
 

@@ -8,7 +8,7 @@ use lib.IntN.{pos}
 use lib.ListN.{length, getD, set}
 use Rattle.rules.specs.declared.Account.{Account}
 use Rattle.rules.specs.Books.{Books, settings, withSettings}
-use Rattle.rules.specs.Answers.{Plan, refused, answers, refusal, done, noTransfer, notBy}
+use Rattle.rules.specs.Answers.{refused, answers, refusal, done, noTransfer, notBy}
 use Rattle.rules.specs.Settings.{setPaused, setPayoutCaller}
 use Rattle.books.specs.Words.{Tables, tables, booksOf, goodTables, result, acted}
 use Rattle.books.specs.Held.{Fit}

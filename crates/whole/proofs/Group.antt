@@ -3,7 +3,7 @@
 -- go away where at most three terms stand between them. It takes no hypothesis and no order: those are for `omega (arith, whole)`.
 use mathlib.Core.Path.{_≡_}
 use native.Mathlib.Omega.{arith}
-use lib.IntN.{ℤ, negℤ, _+ℤ_, _-ℤ_, negℤ-+ℤ, negℤ-negℤ, +ℤ-assoc, +ℤ-comm, +ℤ-idl, +ℤ-idr, +ℤ-invr}
+use lib.IntN.{ℤ, negℤ, _+ℤ_, negℤ-+ℤ, negℤ-negℤ, +ℤ-assoc, +ℤ-comm, +ℤ-idl, +ℤ-idr, +ℤ-invr}
 use Rattle.whole.proofs.Linear.{whole, sum, neg}
 
 pub left-comm : (a b c : ℤ) → a +ℤ (b +ℤ c) ≡ b +ℤ (a +ℤ c)

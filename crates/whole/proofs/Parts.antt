@@ -1,6 +1,6 @@
 -- Each z : ℤ is `up z − dn z`, of two naturals one of which is 0: what the parts of a compound term are, and what an order or an equation of
 -- ℤ says of the parts and back. `Linear` gathers the rules into the set by which `omega` reads ℤ.
-use mathlib.Core.Path.{_≡_, refl, sym, _∙_, ap, subst}
+use mathlib.Core.Path.{_≡_, refl, sym, ap, subst}
 use mathlib.Core.Bool.{Bool, true, false, not, cond}
 use Prim.Native.Nat.{ℕ, zero, suc, _+_, _-_, _^_, _≤_, _<_, min}
 use native.Mathlib.Omega.{arith}

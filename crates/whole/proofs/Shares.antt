@@ -1,6 +1,6 @@
 -- A share by its parts: the signs are gone, and what is left is a product and a quotient of ℕ.
 use mathlib.Core.Path.{_≡_, refl, sym, _∙_, ap}
-use Prim.Native.Nat.{ℕ, suc, _+_, _*_, _/_, _%_, _≤_, _<_, zero-le}
+use Prim.Native.Nat.{ℕ, suc, _*_, _/_, _%_, _≤_, _<_, zero-le}
 use native.Mathlib.Nat.{zero-div, zero-mod, div-le-of-le-mul, mul-le-mul-left, zero-mul, mod-lt, div-add-mod'}
 use native.Mathlib.Omega.{arith}
 use lib.IntN.{ℤ, pos, negsuc, natAbs, _+ℤ_, _*ℤ_}

@@ -1,6 +1,5 @@
 -- `accrued_at` meets its contract: by what banking answers (`accrued-told`, `accrued-over`).
-use mathlib.Core.Path.{_≡_, _∙_}
-use mathlib.Core.Bool.{true}
+use mathlib.Core.Path.{_∙_}
 use Prim.Native.Nat.{_<_}
 use native.Mathlib.Omega.{arith}
 use borrow.Author.Needs.{needs}

@@ -1,6 +1,5 @@
 -- `whole::to_word` meets its contract: a negative x is −1 − m, and its bits are those of m turned over. No step leaves the range, at the least
 -- i64 too.
-use borrow.Author.Needs.{needs}
 use native.Mathlib.Omega.{arith}
 use lib.IntN.{ℤ, negsuc, _-ℤ_}
 use mir.Syntax.{w64}

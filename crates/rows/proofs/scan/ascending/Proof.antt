@@ -1,11 +1,8 @@
 -- `ascending` meets its contract. The loop's invariant: the first i rows are sorted. A row that is not above the one before it is a counterexample to
 -- the order; one that is adds a row to it. The measure is what is left of n.
-use mathlib.Core.Path.{_≡_, refl, sym, _∙_}
-use mathlib.Core.Bool.{true, false}
-use Prim.Native.Nat.{_+_, _-_, _*_, _≤_}
+use mathlib.Core.Path.{refl, sym, _∙_}
+use Prim.Native.Nat.{_-_, _≤_}
 use native.Mathlib.Omega.{arith}
-use lib.Dec.{ltb}
-use lib.ListN.{length}
 use borrow.Author.Needs.{needs}
 use borrow.Author.Tests.{ltb-true, ltb-false, not-true, not-false}
 use Rattle.rows.specs.Rows.{keyAt, Sorted}

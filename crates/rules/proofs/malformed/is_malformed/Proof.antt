@@ -1,10 +1,8 @@
 -- `is_malformed` meets its contract.
 use mathlib.Core.Path.{ap, ap₂, _∙_}
 use mathlib.Core.Bool.{Bool, not, _&&_}
-use mathlib.Core.List.{[], _∷_}
-use Rattle.rules.specs.Table.{each}
 use Rattle.rules.specs.Step.{fieldTests, malformed}
-use Rattle.rules.proofs.Conditions.{all-joined, all-last}
+use Rattle.rules.proofs.Conditions.{all-last}
 use borrow.Author.Needs.{needs}
 use Rattle.rules.proofs.malformed.is_malformed.Statement.{statement}
 use Rattle.rules.proofs.malformed.is_malformed.Tie as tie

@@ -1,7 +1,7 @@
 -- `rules::terms::assess_risk` meets its contract: the three points are the rules', each at most one.
-use mathlib.Core.Bool.{Bool, true, false}
-use mathlib.Core.Path.{_≡_, sym, ap, _∙_}
-use Prim.Native.Nat.{ℕ, _+_, _≤_, _<_, min}
+use mathlib.Core.Bool.{true, false}
+use mathlib.Core.Path.{_≡_, ap, _∙_}
+use Prim.Native.Nat.{ℕ, _+_, _≤_, _<_}
 use native.Mathlib.Omega.{arith}
 use lib.Dec.{ltb, leb}
 use lib.IntN.{ℤ, pos}
@@ -10,7 +10,6 @@ use mir.Syntax.{w64}
 use mir.Val.{toZ, ofZ}
 use mir.ValLaws.{toZ-ofZ}
 use borrow.Author.Needs.{needs}
-use Rattle.whole.proofs.Linear.{whole, le-false}
 use Rattle.rules.specs.Terms.{point, assessRisk}
 use Rattle.rules.proofs.terms.assess_risk.Statement.{statement}
 use Rattle.rules.proofs.terms.assess_risk.Tie as tie

@@ -1,7 +1,7 @@
 -- `rules::terms::capped_amount` meets its contract: a cap is at most the whole (`tier-range`), so the quotient is at most the amount and `mul_div` answers
 -- Exact.
 use mathlib.Core.Path.{_≡_, sym, ap, _∙_}
-use Prim.Native.Nat.{ℕ, _*_, _/_, _%_, _^_, _<_}
+use Prim.Native.Nat.{ℕ, _*_, _/_, _^_, _<_}
 use native.Mathlib.Nat.{lt-of-le-of-lt}
 use native.Mathlib.Omega.{arith}
 use lib.ListN.{getD}

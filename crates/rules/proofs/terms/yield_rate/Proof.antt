@@ -1,7 +1,6 @@
 -- `rules::terms::yield_rate` meets its contract: the flat pool's rate is the one handed in, and a tier's is its terms'.
-use mathlib.Core.Path.{sym, ap, _∙_}
+use mathlib.Core.Path.{ap}
 use Prim.Native.Nat.{ℕ}
-use native.Mathlib.Omega.{arith}
 use borrow.Author.Needs.{needs}
 use borrow.Author.Tests.{eq-eqb, ne-eqb}
 use Rattle.rules.proofs.terms.yield_rate.Statement.{statement}

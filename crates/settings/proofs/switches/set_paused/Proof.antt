@@ -1,8 +1,7 @@
 -- `set_paused` meets its contract: each answer is a rung of the plan (`SettingsPlans`).
-use mathlib.Core.Path.{_≡_, sym, ap, ap₂, _∙_}
+use mathlib.Core.Path.{sym, ap, ap₂, _∙_}
 use mathlib.Core.List.{List}
 use borrow.Author.Needs.{needs}
-use lib.ListN.{length}
 use Rattle.rules.specs.declared.Answer.{Answer}
 use Rattle.books.specs.Words.{Tables, tables, result}
 use Rattle.books.specs.Held.{Fit}

@@ -4,7 +4,7 @@ use mathlib.Core.Bool.{false, not}
 use mathlib.Core.List.{List}
 use borrow.Author.Needs.{needs}
 use lib.Dec.{eqb}
-use lib.ListN.{length, getD}
+use lib.ListN.{getD}
 use Rattle.rules.specs.declared.Answer.{Answer}
 use Rattle.books.specs.Words.{Tables, tables, result}
 use Rattle.books.specs.Held.{Fit}
