@@ -5,6 +5,7 @@ mod words;
 use crate::words::tell_answer;
 use crate::words::tell_progress;
 use crate::words::tell_two;
+use history::RECORD;
 use log::Head;
 use rules::Account;
 ghost use mathlib.Core.Path.{_≡_};
@@ -17,9 +18,7 @@ const MALFORMED: u8 = 1;
 
 const BAD_TABLES: u8 = 2;
 
-// The bytes of a record, and the words of a call's and of a query's answer.
-const RECORD: usize = 48;
-
+// The words of a call's and of a query's answer.
 const ANSWER: usize = 9;
 
 const TOLD: usize = 3;
