@@ -8,11 +8,13 @@ use native.Mathlib.Omega.{arith}
 use lib.ListN.{length, getD, length-append, length-replicate, getD-replicate, List·getD-eq-default}
 use lib.Seq.{getD-append-add}
 use borrow.Author.Tests.{eq-eqb, ne-eqb}
-use Rattle.rows.specs.Rows.{keyAt, word, zeros}
+use Rattle.rows.specs.inner.Order.{keyAt}
+use Rattle.rows.specs.Rows.{word, zeros}
 use Rattle.rows.proofs.Order.{lt-or-le, le-cases}
-use Rattle.rules.proofs.Facts.{Rows}
-use Rattle.books.specs.Tables.{rowsFrom, usedFrom, flat, tableWords, roomOf, tableOf}
-use Rattle.books.specs.Held.{Table}
+use Rattle.rules.specs.inner.Facts.{Rows}
+use Rattle.books.specs.Layout.{numberWord}
+use Rattle.books.specs.Tables.{rowsFrom, usedFrom, wordsOfRows, tableWords, roomOf, tableOf}
+use Rattle.books.specs.inner.Held.{Table}
 use Rattle.books.proofs.Flat.{flat-length}
 
 -- ---- rows in order are a sorted table
@@ -47,42 +49,42 @@ none-used : (p : List ℕ) (w z i m : ℕ) → length p ≡ i * w → usedFrom w
 unfolding usedFrom
 none-used p w z i zero h = refl
 none-used p w z i (suc m) h =
-    let e : word (p ++ zeros z) w i 1 ≡ 0 = ap (λ (k : ℕ). getD (p ++ zeros z) (k + 1) 0) (sym h) ∙ zero-word p z 1 in
-    rw (eq-eqb (word (p ++ zeros z) w i 1) 0 e)
+    let e : word (p ++ zeros z) w i numberWord ≡ 0 = ap (λ (k : ℕ). getD (p ++ zeros z) (k + 1) 0) (sym h) ∙ zero-word p z 1 in
+    rw (eq-eqb (word (p ++ zeros z) w i numberWord) 0 e)
 
 -- ---- rows of a type whose words can be read back
 
 -- back, number: of a row that is in order, its words behind any words that fill the rows before it
 module _ {A : Type 0} (rowAt : List ℕ → ℕ → A) (enc : A → List ℕ) (key : A → ℕ) (Ok : A → Type 0) (w : ℕ)
     (width : (r : A) → length (enc r) ≡ w)
-    (back : (p t : List ℕ) (i : ℕ) (r : A) → Ok r → length p ≡ i * w → (rowAt (p ++ (enc r ++ t)) i ≡ r) × (word (p ++ (enc r ++ t)) w i 1 ≢ 0)) where
+    (back : (p t : List ℕ) (i : ℕ) (r : A) → Ok r → length p ≡ i * w → (rowAt (p ++ (enc r ++ t)) i ≡ r) × (word (p ++ (enc r ++ t)) w i numberWord ≢ 0)) where
   next : (p : List ℕ) (i : ℕ) (r : A) → length p ≡ i * w → length (p ++ enc r) ≡ suc i * w
   next p i r h = omega (arith, length-append p (enc r), width r)
 
-  shift : (p t : List ℕ) (r : A) (rows : List A) → p ++ (flat enc (r ∷ rows) ++ t) ≡ p ++ enc r ++ (flat enc rows ++ t)
-  unfolding flat
+  shift : (p t : List ℕ) (r : A) (rows : List A) → p ++ (wordsOfRows enc (r ∷ rows) ++ t) ≡ p ++ enc r ++ (wordsOfRows enc rows ++ t)
+  unfolding wordsOfRows
   shift p t r rows = simp append-assoc
 
-  rows-back : (low : ℕ) (rows : List A) → Rows key Ok low rows → (p t : List ℕ) (i : ℕ) → length p ≡ i * w → rowsFrom rowAt (p ++ (flat enc rows ++ t)) i (length rows) ≡ rows
+  rows-back : (low : ℕ) (rows : List A) → Rows key Ok low rows → (p t : List ℕ) (i : ℕ) → length p ≡ i * w → rowsFrom rowAt (p ++ (wordsOfRows enc rows ++ t)) i (length rows) ≡ rows
   unfolding rowsFrom
   rows-back low [] o p t i h = refl
   rows-back low (r ∷ rows) o p t i h =
-      let e : p ++ (flat enc (r ∷ rows) ++ t) ≡ p ++ enc r ++ (flat enc rows ++ t) = shift p t r rows in
-      let f : p ++ enc r ++ (flat enc rows ++ t) ≡ p ++ (enc r ++ (flat enc rows ++ t)) = append-assoc p (enc r) (flat enc rows ++ t) in
+      let e : p ++ (wordsOfRows enc (r ∷ rows) ++ t) ≡ p ++ enc r ++ (wordsOfRows enc rows ++ t) = shift p t r rows in
+      let f : p ++ enc r ++ (wordsOfRows enc rows ++ t) ≡ p ++ (enc r ++ (wordsOfRows enc rows ++ t)) = append-assoc p (enc r) (wordsOfRows enc rows ++ t) in
       ap₂ (λ (x : A) (l : List A). x ∷ l)
-      (ap (λ (s : List ℕ). rowAt s i) (e ∙ f) ∙ back p (flat enc rows ++ t) i r (o .1) h .0)
+      (ap (λ (s : List ℕ). rowAt s i) (e ∙ f) ∙ back p (wordsOfRows enc rows ++ t) i r (o .1) h .0)
       (ap (λ (s : List ℕ). rowsFrom rowAt s (suc i) (length rows)) e ∙ rows-back (key r) rows (o .2) (p ++ enc r) t (suc i) (next p i r h))
 
-  used-back : (low : ℕ) (rows : List A) → Rows key Ok low rows → (p : List ℕ) (z i m : ℕ) → length p ≡ i * w → usedFrom w (p ++ (flat enc rows ++ zeros z)) i (length rows + m) ≡ length rows
-  unfolding usedFrom flat
+  used-back : (low : ℕ) (rows : List A) → Rows key Ok low rows → (p : List ℕ) (z i m : ℕ) → length p ≡ i * w → usedFrom w (p ++ (wordsOfRows enc rows ++ zeros z)) i (length rows + m) ≡ length rows
+  unfolding usedFrom wordsOfRows
   used-back low [] o p z i m h = ap (usedFrom w (p ++ zeros z) i) (zero-add m) ∙ none-used p w z i m h
   used-back low (r ∷ rows) o p z i m h =
-      let s : List ℕ = p ++ (flat enc (r ∷ rows) ++ zeros z) in
-      let e : s ≡ p ++ enc r ++ (flat enc rows ++ zeros z) = shift p (zeros z) r rows in
-      let f : s ≡ p ++ (enc r ++ (flat enc rows ++ zeros z)) = e ∙ append-assoc p (enc r) (flat enc rows ++ zeros z) in
-      let g : word s w i 1 ≢ 0 = subst⁻¹ (λ (l : List ℕ). word l w i 1 ≢ 0) f (back p (flat enc rows ++ zeros z) i r (o .1) h .1) in
+      let s : List ℕ = p ++ (wordsOfRows enc (r ∷ rows) ++ zeros z) in
+      let e : s ≡ p ++ enc r ++ (wordsOfRows enc rows ++ zeros z) = shift p (zeros z) r rows in
+      let f : s ≡ p ++ (enc r ++ (wordsOfRows enc rows ++ zeros z)) = e ∙ append-assoc p (enc r) (wordsOfRows enc rows ++ zeros z) in
+      let g : word s w i numberWord ≢ 0 = subst⁻¹ (λ (l : List ℕ). word l w i numberWord ≢ 0) f (back p (wordsOfRows enc rows ++ zeros z) i r (o .1) h .1) in
       ap (usedFrom w s i) (suc-add (length rows) m)
-      ∙ rw (ne-eqb (word s w i 1) 0 g)
+      ∙ rw (ne-eqb (word s w i numberWord) 0 g)
       (ap suc (ap (λ (l : List ℕ). usedFrom w l (suc i) (length rows + m)) e ∙ used-back (key r) rows (o .2) (p ++ enc r) z (suc i) m (next p i r h)))
 
   -- rows in order, written into a room, are a table that reads as these rows
@@ -90,7 +92,6 @@ module _ {A : Type 0} (rowAt : List ℕ → ℕ → A) (enc : A → List ℕ) (k
     pub table : Table w (tableWords enc w room rows) (length rows)
     pub reads : tableOf rowAt w (tableWords enc w room rows) ≡ rows
     pub rooms : roomOf w (tableWords enc w room rows) ≡ room
-    pub sized : length (tableWords enc w room rows) ≡ room * w
 
   pub written : 0 < w → ((s : List ℕ) (i : ℕ) → key (rowAt s i) ≡ keyAt s w i) → (room low : ℕ) (rows : List A) → Rows key Ok low rows → length rows ≤ room → Written room rows
   written pos key-is room low rows o h =
@@ -98,8 +99,8 @@ module _ {A : Type 0} (rowAt : List ℕ → ℕ → A) (enc : A → List ℕ) (k
       let n : ℕ = length rows in
       let z : ℕ = room * w - n * w in
       let q : n * w ≤ room * w = mul-le-mul-right w h in
-      let fl : length (flat enc rows) ≡ n * w = flat-length enc w width rows in
-      let len : length s ≡ room * w = omega (arith, length-append (flat enc rows) (zeros z), zeros-length z) in
+      let fl : length (wordsOfRows enc rows) ≡ n * w = flat-length enc w width rows in
+      let len : length s ≡ room * w = omega (arith, length-append (wordsOfRows enc rows) (zeros z), zeros-length z) in
       let rooms : roomOf w s ≡ room = ap (λ (k : ℕ). k / w) len ∙ mul-div-cancel room pos in
       let e : room ≡ n + (room - n) = omega arith in
       let used : usedFrom w s 0 room ≡ n = ap (usedFrom w s 0) e ∙ used-back low rows o [] z 0 (room - n) (omega arith) in
@@ -110,9 +111,8 @@ module _ {A : Type 0} (rowAt : List ℕ → ℕ → A) (enc : A → List ℕ) (k
           used = ap (usedFrom w s 0) rooms ∙ used;
           fits = omega arith;
           sorted = λ a b l m. rows-sorted rowAt key Ok s w (key-is s) low 0 n (subst⁻¹ (Rows key Ok low) reads o) a b (omega arith) l (omega arith);
-          blank = λ j l. let f : j ≡ length (flat enc rows) + (j - n * w) = omega arith in ap (λ (k : ℕ). getD s k 0) f ∙ zero-word (flat enc rows) z (j - n * w);
+          blank = λ j l. let f : j ≡ length (wordsOfRows enc rows) + (j - n * w) = omega arith in ap (λ (k : ℕ). getD s k 0) f ∙ zero-word (wordsOfRows enc rows) z (j - n * w);
         };
         reads = ap (rowsFrom rowAt s 0) (ap (usedFrom w s 0) rooms ∙ used) ∙ reads;
         rooms = rooms;
-        sized = len;
       }

@@ -8,7 +8,7 @@ use Rattle.rules.specs.declared.Answer.{Answer}
 use Rattle.rules.specs.declared.Call.{Call}
 use Rattle.rules.specs.Answers.{Plan, refused, does, _refuses_else_, enact, refusal, Malformed, BadTables}
 use Rattle.rules.specs.Step.{malformed, planOf, step}
-use Rattle.rules.proofs.Facts.{WellFormed}
+use Rattle.rules.specs.inner.Facts.{WellFormed}
 use Rattle.rules.proofs.Kept.{step-formed}
 use Rattle.rules.proofs.CodeRange.{step-coded}
 use Rattle.books.specs.Words.{Tables, Result, booksOf, goodTables, result, acted, stepWords}

@@ -2,11 +2,10 @@
 -- good tables that hold these books.
 use mathlib.Core.Path.{_≡_, refl, sym, ap, _∙_}
 use mathlib.Core.Bool.{Bool, true, false, not, cond}
-use mathlib.Core.List.{List, [], _∷_}
-use Prim.Native.Nat.{ℕ, zero, suc, _+_, _≤_, _<_}
+use mathlib.Core.List.{List, [], _∷_, _++_}
+use Prim.Native.Nat.{ℕ, zero, suc, _+_, _*_, _≤_, _<_}
 use native.Mathlib.Omega.{arith}
 use lib.Dec.{eqb}
-use lib.IntN.{ℤ, pos}
 use lib.ListN.{length, getD, drop, drop-of-length-le}
 use lib.Seq.{drop-cons}
 use mir.Syntax.{w64}
@@ -15,15 +14,17 @@ use borrow.Author.Tests.{eqb-true, eq-eqb, le-leb, leb-true}
 use Rattle.whole.specs.Whole.{Within}
 use Rattle.whole.proofs.Linear.{whole}
 use Rattle.whole.proofs.Words.{word-back, number-back}
-use Rattle.rows.specs.Rows.{keyAt}
-use Rattle.rules.specs.Books.{Books, StakeRow, OfferRow, books, settings, stakeKey, offerKey, balanceOf, unpaidOf}
+use Rattle.rows.specs.inner.Order.{keyAt}
+use Rattle.rules.specs.Limits.{limit, mostStakes, mostOffers}
+use Rattle.rules.specs.Books.{Books, Pool, StakeRow, OfferRow, noFigures, books, settings, stakeKey, offerKey, balanceOf, unpaidOf}
 use Rattle.rules.proofs.Tests.{nth, held}
-use Rattle.rules.proofs.Facts.{Rows, StakeOk, OfferOk, WellFormed}
+use Rattle.rules.specs.inner.Facts.{Rows, StakeOk, OfferOk, WellFormed}
 use Rattle.rules.proofs.Decided.{formed-read, formed-made}
 use Rattle.rules.proofs.Bounds.{balance-most, unpaid-most}
+use Rattle.books.specs.Layout.{stakeWidth, offerWidth, pools, eachPool, booksWords, adminWord, callerWord, pausedWord, rateWord}
 use Rattle.books.specs.Tables.{usedOf, tableOf, tidy}
-use Rattle.books.specs.Words.{Tables, tables, stakeRowAt, offerRowAt, booksOf, wordsOf, goodTables}
-use Rattle.books.specs.Held.{Fit, Table, HeldStakes, HeldOffers}
+use Rattle.books.specs.Words.{Tables, tables, stakeRowAt, offerRowAt, unpaidIn, booksOf, wordsOf, goodTables}
+use Rattle.books.specs.inner.Held.{Fit, Table, HeldStakes, HeldOffers}
 use Rattle.books.proofs.Back.{rows-sorted}
 use Rattle.books.proofs.Counts.{used-fits, tidy-read, tidy-made}
 use Rattle.books.proofs.StakeRows as stakes
@@ -32,10 +33,10 @@ use Rattle.books.proofs.OfferRows as offers
 -- ---- what the test says, part by part
 
 pub record Good (t : Tables) : Type 0 where
-  pub stakes-tidy : tidy 5 (t .stakes) ≡ true
-  pub offers-tidy : tidy 4 (t .offers) ≡ true
-  pub twelve : length (t .books) ≡ 12
-  pub flag : getD (t .books) 10 0 ≤ 1
+  pub stakes-tidy : tidy stakeWidth (t .stakes) ≡ true
+  pub offers-tidy : tidy offerWidth (t .offers) ≡ true
+  pub sized : length (t .books) ≡ booksWords
+  pub flag : getD (t .books) pausedWord 0 ≤ 1
   pub formed : WellFormed (booksOf t)
 
 pub good-read : (t : Tables) → goodTables t ≡ true → Good t
@@ -45,15 +46,15 @@ good-read t e =
     record {
       stakes-tidy = p 0;
       offers-tidy = p 1;
-      twelve = eqb-true (length (t .books)) 12 (p 2);
-      flag = leb-true (getD (t .books) 10 0) 1 (p 3);
+      sized = eqb-true (length (t .books)) booksWords (p 2);
+      flag = leb-true (getD (t .books) pausedWord 0) 1 (p 3);
       formed = formed-read (booksOf t) (p 4);
     }
 
 pub good-made : (t : Tables) → Good t → goodTables t ≡ true
 unfolding goodTables
 good-made t g =
-    held _ (g .stakes-tidy, (g .offers-tidy, (eq-eqb (length (t .books)) 12 (g .twelve), (le-leb (getD (t .books) 10 0) 1 (g .flag), (formed-made (booksOf t) (g .formed), tt)))))
+    held _ (g .stakes-tidy, (g .offers-tidy, (eq-eqb (length (t .books)) booksWords (g .sized), (le-leb (getD (t .books) pausedWord 0) 1 (g .flag), (formed-made (booksOf t) (g .formed), tt)))))
 
 -- ---- both tables lie in the words, in order
 
@@ -76,28 +77,28 @@ module _ (t : Tables) (g : goodTables t ≡ true) where
   pub good-formed : WellFormed (booksOf t)
   good-formed = good-read t g .formed
 
-  stake-rows : Rows stakeKey StakeOk 0 (tableOf stakeRowAt 5 (t .stakes))
+  stake-rows : Rows stakeKey StakeOk 0 (tableOf stakeRowAt stakeWidth (t .stakes))
   unfolding booksOf
   stake-rows = good-formed .stake-rows
 
-  offer-rows : Rows offerKey OfferOk 0 (tableOf offerRowAt 4 (t .offers))
+  offer-rows : Rows offerKey OfferOk 0 (tableOf offerRowAt offerWidth (t .offers))
   unfolding booksOf
   offer-rows = good-formed .offer-rows
 
-  pub stakes-held : HeldStakes (t .stakes) (usedOf 5 (t .stakes))
-  stakes-held = record { table = table-held stakeRowAt stakeKey StakeOk (t .stakes) 5 (stakes.key-is (t .stakes)) stake-rows (good-read t g .stakes-tidy); rows = stake-rows }
+  pub stakes-held : HeldStakes (t .stakes) (usedOf stakeWidth (t .stakes))
+  stakes-held = record { table = table-held stakeRowAt stakeKey StakeOk (t .stakes) stakeWidth (stakes.key-is (t .stakes)) stake-rows (good-read t g .stakes-tidy); rows = stake-rows }
 
-  pub offers-held : HeldOffers (t .offers) (usedOf 4 (t .offers))
-  offers-held = record { table = table-held offerRowAt offerKey OfferOk (t .offers) 4 (offers.key-is (t .offers)) offer-rows (good-read t g .offers-tidy); rows = offer-rows }
+  pub offers-held : HeldOffers (t .offers) (usedOf offerWidth (t .offers))
+  offers-held = record { table = table-held offerRowAt offerKey OfferOk (t .offers) offerWidth (offers.key-is (t .offers)) offer-rows (good-read t g .offers-tidy); rows = offer-rows }
 
   -- |balance| is at most 1,024 limits, and an unpaid sum at most 512
-  pub good-balance : (pool : ℕ) → pool < 4 → Within 1_024_000_000_000_000_000 (balanceOf (booksOf t) pool)
+  pub good-balance : (pool : ℕ) → pool < pools → Within (mostStakes * limit) (balanceOf (booksOf t) pool)
   good-balance pool h = balance-most (booksOf t) good-formed pool h
 
-  pub good-unpaid : (pool : ℕ) → pool < 4 → unpaidOf (booksOf t) pool ≤ 512_000_000_000_000_000
+  pub good-unpaid : (pool : ℕ) → pool < pools → unpaidOf (booksOf t) pool ≤ mostOffers * limit
   good-unpaid pool h = unpaid-most (booksOf t) good-formed pool h
 
--- ---- the twelve words of the books
+-- ---- the words of the books
 
 from : List ℕ → ℕ → ℕ → List ℕ
 from l i zero = []
@@ -108,10 +109,10 @@ unfolding from
 from-is l i zero h = drop-of-length-le l {i = i} (omega arith)
 from-is l i (suc n) h = drop-cons l i 0 (omega arith) ∙ ap (λ (r : List ℕ). getD l i 0 ∷ r) (from-is l (suc i) n (omega arith))
 
-twelve : (l : List ℕ) → length l ≡ 12
-    → getD l 0 0 ∷ getD l 1 0 ∷ getD l 2 0 ∷ getD l 3 0 ∷ getD l 4 0 ∷ getD l 5 0 ∷ getD l 6 0 ∷ getD l 7 0 ∷ getD l 8 0 ∷ getD l 9 0 ∷ getD l 10 0 ∷ getD l 11 0 ∷ [] ≡ l
+all-words : (l : List ℕ) → length l ≡ booksWords
+    → eachPool (λ p. getD l p 0) ++ eachPool (unpaidIn l) ++ (getD l adminWord 0 ∷ getD l callerWord 0 ∷ getD l pausedWord 0 ∷ getD l rateWord 0 ∷ []) ≡ l
 unfolding from
-twelve l h = sym (from-is l 0 12 (sym h))
+all-words l h = sym (from-is l 0 booksWords (sym h))
 
 flag-back : (p : ℕ) → p ≤ 1 → cond (not (eqb p 0)) 1 0 ≡ p
 flag-back zero h = refl
@@ -135,13 +136,13 @@ module _ (t : Tables) (g : goodTables t ≡ true) (fit-s : Fit (t .stakes)) (fit
       let b = t .books in
       let p = good-read t g in
       same-tables
-      (stakes.stakes-back (t .stakes) (usedOf 5 (t .stakes)) (stakes-held t g .table) fit-s)
-      (offers.offers-back (t .offers) (usedOf 4 (t .offers)) (offers-held t g .table))
-      (cc (twelve b (p .twelve), balance-back 0, balance-back 1, balance-back 2, balance-back 3, flag-back (getD b 10 0) (p .flag)))
+      (stakes.stakes-back (t .stakes) (usedOf stakeWidth (t .stakes)) (stakes-held t g .table) fit-s)
+      (offers.offers-back (t .offers) (usedOf offerWidth (t .offers)) (offers-held t g .table))
+      (cc (all-words b (p .sized), balance-back 0, balance-back 1, balance-back 2, balance-back 3, flag-back (getD b pausedWord 0) (p .flag)))
 
 -- ---- the words of well-formed books
 
-four-of : {A : Type 0} (d : A) (l : List A) → length l ≡ 4 → getD l 0 d ∷ getD l 1 d ∷ getD l 2 d ∷ getD l 3 d ∷ [] ≡ l
+four-of : {A : Type 0} (d : A) (l : List A) → length l ≡ pools → eachPool (λ p. getD l p d) ≡ l
 four-of d [] h = absurd (omega arith)
 four-of d (x ∷ []) h = absurd (omega arith)
 four-of d (x ∷ y ∷ []) h = absurd (omega arith)
@@ -158,11 +159,10 @@ flag-most true = omega arith
 flag-most false = omega arith
 
 -- books of equal parts
-same-books : (b : Books) (s : List StakeRow) (o : List OfferRow) (x : List ℤ) (u : List ℕ) (a c : ℕ) (p : Bool) (r m n : ℕ)
-    → s ≡ b .stakes → o ≡ b .offers → x ≡ b .balances → u ≡ b .unpaid → p ≡ b .settings .paused → m ≡ b .rooms .stakes → n ≡ b .rooms .offers
-    → a ≡ b .settings .admin → c ≡ b .settings .caller → r ≡ b .settings .rate
-    → books s o x u (settings a c p r) (record { stakes = m; offers = n }) ≡ b
-same-books b s o x u a c p r m n e1 e2 e3 e4 e5 e6 e7 e8 e9 e10 = rw (e1, e2, e3, e4, e5, e6, e7, e8, e9, e10)
+same-books : (b : Books) (s : List StakeRow) (o : List OfferRow) (x : List Pool) (p : Bool) (m n : ℕ)
+    → s ≡ b .stakes → o ≡ b .offers → x ≡ b .pools → p ≡ b .settings .paused → m ≡ b .rooms .stakes → n ≡ b .rooms .offers
+    → books s o x (settings (b .settings .admin) (b .settings .caller) p (b .settings .rate)) (record { stakes = m; offers = n }) ≡ b
+same-books b s o x p m n e1 e2 e3 e4 e5 e6 = rw (e1, e2, e3, e4, e5, e6)
 
 module _ (b : Books) (w : WellFormed b) where
   ws : stakes.StakesWritten (b .rooms .stakes) (b .stakes)
@@ -171,7 +171,7 @@ module _ (b : Books) (w : WellFormed b) where
   wo : offers.OffersWritten (b .rooms .offers) (b .offers)
   wo = offers.offers-written (b .rooms .offers) (b .offers) (w .offer-rows) (w .offer-room .enough)
 
-  number-of : (pool : ℕ) → pool < 4 → toZ w64 (ofZ w64 (balanceOf b pool)) ≡ balanceOf b pool
+  number-of : (pool : ℕ) → pool < pools → toZ w64 (ofZ w64 (balanceOf b pool)) ≡ balanceOf b pool
   number-of pool h =
       let m = balance-most b w pool h in
       number-back (balanceOf b pool) (omega (arith, whole, m .above, m .below))
@@ -180,26 +180,26 @@ module _ (b : Books) (w : WellFormed b) where
   pub words-back : booksOf (wordsOf b) ≡ b
   unfolding booksOf wordsOf
   words-back =
-      same-books b _ _ _ _ _ _ _ _ _ _ (ws .reads) (wo .reads)
-      (cc (number-of 0 (omega arith), number-of 1 (omega arith), number-of 2 (omega arith), number-of 3 (omega arith), four-of (pos 0) (b .balances) (w .four-balances)))
-      (four-of 0 (b .unpaid) (w .four-unpaid)) (flag-read (b .settings .paused)) (ws .rooms) (wo .rooms) refl refl refl
+      same-books b _ _ _ _ _ _ (ws .reads) (wo .reads)
+      (rw (number-of 0 (omega arith), number-of 1 (omega arith), number-of 2 (omega arith), number-of 3 (omega arith)) (four-of noFigures (b .pools) (w .four-pools)))
+      (flag-read (b .settings .paused)) (ws .rooms) (wo .rooms)
 
-  stakes-tidy : tidy 5 (wordsOf b .stakes) ≡ true
+  stakes-tidy : tidy stakeWidth (wordsOf b .stakes) ≡ true
   unfolding wordsOf
-  stakes-tidy = table-tidy 5 _ _ (ws .table)
+  stakes-tidy = table-tidy stakeWidth _ _ (ws .table)
 
-  offers-tidy : tidy 4 (wordsOf b .offers) ≡ true
+  offers-tidy : tidy offerWidth (wordsOf b .offers) ≡ true
   unfolding wordsOf
-  offers-tidy = table-tidy 4 _ _ (wo .table)
+  offers-tidy = table-tidy offerWidth _ _ (wo .table)
 
-  twelve-words : length (wordsOf b .books) ≡ 12
+  twelve-words : length (wordsOf b .books) ≡ booksWords
   unfolding wordsOf
   twelve-words = refl
 
-  flag-word : getD (wordsOf b .books) 10 0 ≤ 1
+  flag-word : getD (wordsOf b .books) pausedWord 0 ≤ 1
   unfolding wordsOf
   flag-word = flag-most (b .settings .paused)
 
   -- and are good tables
   pub words-good : goodTables (wordsOf b) ≡ true
-  words-good = good-made (wordsOf b) (record { stakes-tidy = stakes-tidy; offers-tidy = offers-tidy; twelve = twelve-words; flag = flag-word; formed = rw words-back w })
+  words-good = good-made (wordsOf b) (record { stakes-tidy = stakes-tidy; offers-tidy = offers-tidy; sized = twelve-words; flag = flag-word; formed = rw words-back w })

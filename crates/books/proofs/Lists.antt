@@ -7,14 +7,14 @@ use native.Mathlib.Nat.{zero-add, suc-add, add-zero}
 use native.Mathlib.Omega.{arith}
 use lib.ListN.{length, length-append}
 use borrow.Author.Tests.{lt-ltb, le-ltb, eq-eqb, ne-eqb}
-use Rattle.rows.specs.Rows.{keyAt, Sorted}
-use Rattle.rows.specs.Found.{placeOf}
+use Rattle.rows.specs.inner.Order.{keyAt, Sorted}
+use Rattle.rows.specs.inner.Found.{placeOf}
 use Rattle.rows.specs.declared.Place.{Place}
 use Rattle.rows.specs.declared.Place.the-variants.{At, Gap}
 use Rattle.rows.proofs.Order.{Placed, placed}
 use Rattle.rules.specs.Table.{find, put, keep}
 use Rattle.books.specs.Tables.{rowsFrom}
-use Rattle.books.specs.Put.{putCount}
+use Rattle.books.specs.inner.Put.{putCount}
 
 pub rows-length : {A : Type 0} (rowAt : List ℕ → ℕ → A) (s : List ℕ) (i n : ℕ) → length (rowsFrom rowAt s i n) ≡ n
 unfolding rowsFrom

@@ -7,14 +7,16 @@ use Prim.Native.Nat.{ℕ, _+_, _*_, _≤_, _<_}
 use native.Mathlib.Nat.{mul-le-mul-right}
 use native.Mathlib.Omega.{arith}
 use lib.ListN.{length, take, drop}
-use Rattle.rows.specs.Rows.{keyAt, word}
-use Rattle.rows.specs.Found.{placeOf}
+use Rattle.rows.specs.inner.Order.{keyAt}
+use Rattle.rows.specs.Rows.{word}
+use Rattle.rows.specs.inner.Found.{placeOf}
 use Rattle.rules.specs.Table.{find, put}
-use Rattle.rules.proofs.Facts.{Rows}
+use Rattle.rules.specs.inner.Facts.{Rows}
 use Rattle.rules.proofs.Tables.{put-rows}
+use Rattle.books.specs.Layout.{numberWord}
 use Rattle.books.specs.Tables.{rowsFrom, roomOf, tableOf, tableWords}
-use Rattle.books.specs.Put.{putWords, putCount}
-use Rattle.books.specs.Held.{Table, withRow, CanPut, PutDone}
+use Rattle.books.specs.inner.Put.{putWords, putCount}
+use Rattle.books.specs.inner.Held.{Table, withRow, CanPut, PutDone}
 use Rattle.books.proofs.Lists.{find-place, rowOr, put-count, rows-length}
 use Rattle.books.proofs.Flat.{put-words, table-words}
 use Rattle.books.proofs.Back.{Written, written}
@@ -48,7 +50,7 @@ module _ {A : Type 0} (rowAt : List ℕ → ℕ → A) (key : A → ℕ) (w : �
 -- rows in order are kept in order where a row is put (`put-rows` of the rules), so the words after it are a table that reads as them
 module _ {A : Type 0} (rowAt : List ℕ → ℕ → A) (enc : A → List ℕ) (key : A → ℕ) (gone : A → Bool) (Ok : A → Type 0) (w : ℕ)
     (width : (r : A) → length (enc r) ≡ w)
-    (back : (p t : List ℕ) (i : ℕ) (r : A) → Ok r → length p ≡ i * w → (rowAt (p ++ (enc r ++ t)) i ≡ r) × (word (p ++ (enc r ++ t)) w i 1 ≢ 0))
+    (back : (p t : List ℕ) (i : ℕ) (r : A) → Ok r → length p ≡ i * w → (rowAt (p ++ (enc r ++ t)) i ≡ r) × (word (p ++ (enc r ++ t)) w i numberWord ≢ 0))
     (some : 0 < w) (key-is : (s : List ℕ) (i : ℕ) → key (rowAt s i) ≡ keyAt s w i) where
   pub put-done : (s : List ℕ) (n : ℕ) (r : A) (t : List ℕ) (k : ℕ) → CanPut rowAt enc key gone Ok w r s n
       → t ≡ tableWords enc w (roomOf w s) (withRow rowAt enc key gone Ok w r s) → k ≡ length (withRow rowAt enc key gone Ok w r s) → PutDone rowAt enc key gone Ok w r s t k

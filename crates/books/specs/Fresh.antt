@@ -6,22 +6,21 @@ use lib.Dec.{eqb}
 use lib.ListN.{length}
 use Rattle.rules.specs.Limits.{isNumber}
 use Rattle.rules.specs.Table.{all}
+use Rattle.rules.specs.declared.Account.{Account}
 use Rattle.rules.specs.Answers.{Malformed, BadTables}
-use Rattle.rules.specs.Books.{Rooms, fresh, roomsLent}
+use Rattle.rules.specs.Books.{fresh, roomsLent}
+use Rattle.books.specs.Layout.{stakeWidth, offerWidth, booksWords}
 use Rattle.books.specs.Tables.{roomOf}
 use Rattle.books.specs.Words.{Tables, wordsOf}
-
--- as many rows as were lent
-abbrev pub roomsOf : Tables → Rooms
-roomsOf t = record { stakes = roomOf 5 (t .stakes); offers = roomOf 4 (t .offers) }
+pub use Rattle.books.specs.Words.{roomsOf}
 
 -- so many words are whole rows
 abbrev pub wholeRows : ℕ → List ℕ → Bool
 wholeRows width s = eqb (roomOf width s * width) (length s)
 
--- the lent lengths: whole rows, "1 to 1,024 stake rows", "1 to 512 offer rows", and the books' 12 words
+-- the lent lengths: whole rows, "1 to 1,024 stake rows", "1 to 512 offer rows", and the books' own words
 unfoldable pub lent : Tables → Bool
-lent t = all (wholeRows 5 (t .stakes) ∷ wholeRows 4 (t .offers) ∷ eqb (length (t .books)) 12 ∷ roomsLent (roomsOf t) ∷ [])
+lent t = all (wholeRows stakeWidth (t .stakes) ∷ wholeRows offerWidth (t .offers) ∷ eqb (length (t .books)) booksWords ∷ roomsLent (roomsOf t) ∷ [])
 
 -- a code, and the words after it
 pub record Renewed : Type 0 where
@@ -33,6 +32,6 @@ renewed code t = record { code = code; tables = t }
 
 -- "A fresh set clears every row and figure, with the given admin"; "with admin 0 it is refused 1; lent lengths outside the limits are refused 2",
 -- and a refused set leaves every bit
-unfoldable pub freshWords : Tables → ℕ → Renewed
+unfoldable pub freshWords : Tables → Account → Renewed
 freshWords t admin =
-    cond (isNumber admin) (cond (lent t) (renewed 0 (wordsOf (fresh admin (roomsOf t)))) (renewed BadTables t)) (renewed Malformed t)
+    cond (isNumber (admin .0)) (cond (lent t) (renewed 0 (wordsOf (fresh admin (roomsOf t)))) (renewed BadTables t)) (renewed Malformed t)

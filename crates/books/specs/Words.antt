@@ -1,9 +1,9 @@
--- The lent words read as the books of the rules and written back, and a call on words. A stake row is 5 words (pool, account, stake,
--- since, accrual), an offer row 4 (pool, offer, reserved, paid); the books are 12 (four balances, four unpaid sums, admin, payout
--- caller, paused, rate). Stakes and balances are signed, in two's complement.
+-- The lent words read as the books of the rules and written back, and a call on words. A stake row is pool, account, stake, since, accrual;
+-- an offer row is pool, offer, reserved, paid; the books are four balances, four unpaid sums, admin, payout caller, paused, rate (`Layout`).
+-- Stakes and balances are signed, in two's complement.
 use mathlib.Core.Bool.{Bool, not, cond}
-use mathlib.Core.List.{List, [], _∷_}
-use Prim.Native.Nat.{ℕ}
+use mathlib.Core.List.{List, [], _∷_, _++_}
+use Prim.Native.Nat.{ℕ, _+_}
 use lib.Dec.{eqb, leb}
 use lib.IntN.{ℤ}
 use lib.ListN.{length, getD}
@@ -11,12 +11,14 @@ use mir.Syntax.{w64}
 use mir.Val.{toZ, ofZ}
 use Rattle.rows.specs.Rows.{word}
 use Rattle.rules.specs.Table.{all}
-use Rattle.rules.specs.Books.{Books, StakeRow, OfferRow, books, settings, balanceOf, unpaidOf}
+use Rattle.rules.specs.Books.{Books, Pool, Rooms, StakeRow, OfferRow, books, settings, balanceOf, unpaidOf}
 use Rattle.rules.specs.Formed.{wellFormed}
 use Rattle.rules.specs.declared.Answer.{Answer}
 use Rattle.rules.specs.declared.Call.{Call}
+use Rattle.rules.specs.Calls.{accountNo}
 use Rattle.rules.specs.Answers.{Plan, refused, does, refusal, done, Malformed, BadTables}
 use Rattle.rules.specs.Step.{malformed, planOf}
+use Rattle.books.specs.Layout.{stakeWidth, offerWidth, poolWord, numberWord, stakeWord, sinceWord, accrualWord, reservedWord, paidWord, eachPool, booksWords, unpaidWords, adminWord, callerWord, pausedWord, rateWord}
 use Rattle.books.specs.Tables.{roomOf, tableOf, tableWords, tidy}
 
 -- the three lent slices
@@ -32,50 +34,62 @@ tables s o b = record { stakes = s; offers = o; books = b }
 
 abbrev pub stakeRowAt : List ℕ → ℕ → StakeRow
 stakeRowAt s i = record {
-  pool = word s 5 i 0;
-  account = word s 5 i 1;
-  stake = toZ w64 (word s 5 i 2);
-  since = word s 5 i 3;
-  accrual = word s 5 i 4;
+  pool = word s stakeWidth i poolWord;
+  account = word s stakeWidth i numberWord;
+  stake = toZ w64 (word s stakeWidth i stakeWord);
+  since = word s stakeWidth i sinceWord;
+  accrual = word s stakeWidth i accrualWord;
 }
 
 abbrev pub stakeWords : StakeRow → List ℕ
 stakeWords r = r .pool ∷ r .account ∷ ofZ w64 (r .stake) ∷ r .since ∷ r .accrual ∷ []
 
 abbrev pub offerRowAt : List ℕ → ℕ → OfferRow
-offerRowAt s i = record { pool = word s 4 i 0; offer = word s 4 i 1; reserved = word s 4 i 2; paid = word s 4 i 3 }
+offerRowAt s i = record {
+  pool = word s offerWidth i poolWord;
+  offer = word s offerWidth i numberWord;
+  reserved = word s offerWidth i reservedWord;
+  paid = word s offerWidth i paidWord;
+}
 
 abbrev pub offerWords : OfferRow → List ℕ
 offerWords r = r .pool ∷ r .offer ∷ r .reserved ∷ r .paid ∷ []
 
 -- ---- the books
 
--- a pool's balance
-abbrev pub balanceWord : List ℕ → ℕ → ℤ
-balanceWord b pool = toZ w64 (getD b pool 0)
+-- a pool's balance (the balances come first), its unpaid sum, and both
+abbrev pub balanceIn : List ℕ → ℕ → ℤ
+balanceIn b pool = toZ w64 (getD b pool 0)
+
+abbrev pub unpaidIn : List ℕ → ℕ → ℕ
+unpaidIn b pool = getD b (unpaidWords + pool) 0
+
+abbrev pub poolIn : List ℕ → ℕ → Pool
+poolIn b pool = record { balance = balanceIn b pool; unpaid = unpaidIn b pool }
+
+-- as many rows as were lent
+abbrev pub roomsOf : Tables → Rooms
+roomsOf t = record { stakes = roomOf stakeWidth (t .stakes); offers = roomOf offerWidth (t .offers) }
 
 unfoldable pub booksOf : Tables → Books
 booksOf t =
     let b = t .books in
-    books (tableOf stakeRowAt 5 (t .stakes)) (tableOf offerRowAt 4 (t .offers))
-    (balanceWord b 0 ∷ balanceWord b 1 ∷ balanceWord b 2 ∷ balanceWord b 3 ∷ [])
-    (getD b 4 0 ∷ getD b 5 0 ∷ getD b 6 0 ∷ getD b 7 0 ∷ [])
-    (settings (getD b 8 0) (getD b 9 0) (not (eqb (getD b 10 0) 0)) (getD b 11 0))
-    (record { stakes = roomOf 5 (t .stakes); offers = roomOf 4 (t .offers) })
+    books (tableOf stakeRowAt stakeWidth (t .stakes)) (tableOf offerRowAt offerWidth (t .offers))
+    (eachPool (poolIn b))
+    (settings (accountNo (getD b adminWord 0)) (accountNo (getD b callerWord 0)) (not (eqb (getD b pausedWord 0) 0)) (getD b rateWord 0))
+    (roomsOf t)
 
 unfoldable pub wordsOf : Books → Tables
 wordsOf b =
     let s = b .settings in
-    tables (tableWords stakeWords 5 (b .rooms .stakes) (b .stakes)) (tableWords offerWords 4 (b .rooms .offers) (b .offers))
-    (ofZ w64 (balanceOf b 0) ∷ ofZ w64 (balanceOf b 1) ∷ ofZ w64 (balanceOf b 2) ∷ ofZ w64 (balanceOf b 3)
-    ∷ unpaidOf b 0 ∷ unpaidOf b 1 ∷ unpaidOf b 2 ∷ unpaidOf b 3
-    ∷ s .admin ∷ s .caller ∷ cond (s .paused) 1 0 ∷ s .rate ∷ [])
+    tables (tableWords stakeWords stakeWidth (b .rooms .stakes) (b .stakes)) (tableWords offerWords offerWidth (b .rooms .offers) (b .offers))
+    (eachPool (λ pool. ofZ w64 (balanceOf b pool)) ++ eachPool (unpaidOf b) ++ (s .admin .0 ∷ s .caller .0 ∷ cond (s .paused) 1 0 ∷ s .rate ∷ []))
 
 -- ---- code 2, BadTables: "tables not well formed"
 
 unfoldable pub goodTables : Tables → Bool
 goodTables t =
-    all (tidy 5 (t .stakes) ∷ tidy 4 (t .offers) ∷ eqb (length (t .books)) 12 ∷ leb (getD (t .books) 10 0) 1 ∷ wellFormed (booksOf t) ∷ [])
+    all (tidy stakeWidth (t .stakes) ∷ tidy offerWidth (t .offers) ∷ eqb (length (t .books)) booksWords ∷ leb (getD (t .books) pausedWord 0) 1 ∷ wellFormed (booksOf t) ∷ [])
 
 -- ---- a call on words
 

@@ -1,9 +1,9 @@
 // Where each figure lies in the lent words.
 
 // The row of either table begins with its key: the pool, then the number of an account or an offer.
-pub const POOL: usize = 0;
+pub const POOL: usize = rows::POOL;
 
-pub const NUMBER: usize = 1;
+pub const NUMBER: usize = rows::NUMBER;
 
 // A stake row.
 pub const STAKE_WIDTH: usize = 5;

@@ -11,9 +11,10 @@ ghost use mathlib.Core.Path.{_≡_};
 ghost use mathlib.Core.Bool.{true};
 ghost use Prim.Native.Nat.{_+_, _*_, _≤_};
 ghost use lib.ListN.{length};
+ghost use Rattle.books.specs.Layout.{offerWidth};
 ghost use Rattle.books.specs.Tables.{usedOf, tidy};
 ghost use Rattle.books.specs.Words.{offerRowAt};
-ghost use Rattle.books.specs.Held.{offerOf, offerFor, HeldOffers, CanPutOffer, OfferPut};
+ghost use Rattle.books.specs.inner.Held.{offerOf, offerFor, HeldOffers, CanPutOffer, OfferPut};
 
 // An offer row.
 pub struct OfferLine {
@@ -25,7 +26,7 @@ pub struct OfferLine {
 
 // Row i.
 pub fn offer_at(offers: &[u64], i: usize) -> OfferLine
-    requires { ⌜ i * 4 + 4 ≤ length (now offers) ⌝ }
+    requires { ⌜ i * offerWidth + offerWidth ≤ length (now offers) ⌝ }
     ensures { λ r. ⌜ offerOf r ≡ offerRowAt (now (offers .entry)) i ⌝ }
 {
     OfferLine {
@@ -39,7 +40,7 @@ pub fn offer_at(offers: &[u64], i: usize) -> OfferLine
 // An offer's row in a pool, empty where it has none.
 pub fn read_offer(offers: &[u64], used: usize, pool: u64, offer: Offer) -> OfferLine
     requires { ⌜ HeldOffers (now offers) used ⌝ }
-    ensures { λ r. ⌜ offerOf r ≡ offerFor pool (offer .0) (now (offers .entry)) ⌝ }
+    ensures { λ r. ⌜ offerOf r ≡ offerFor pool offer (now (offers .entry)) ⌝ }
 {
     match rows::find(offers, OFFER_WIDTH, used, pool, offer.0) {
         Place::At(i) => offer_at(offers, i),
@@ -54,8 +55,8 @@ pub fn read_offer(offers: &[u64], used: usize, pool: u64, offer: Offer) -> Offer
 
 // The number of used rows.
 pub fn used_offers(offers: &[u64]) -> usize
-    requires { ⌜ tidy 4 (now offers) ≡ true ⌝ }
-    ensures { λ r. ⌜ r ≡ usedOf 4 (now (offers .entry)) ⌝ }
+    requires { ⌜ tidy offerWidth (now offers) ≡ true ⌝ }
+    ensures { λ r. ⌜ r ≡ usedOf offerWidth (now (offers .entry)) ⌝ }
 {
     rows::used_rows(offers, OFFER_WIDTH)
 }

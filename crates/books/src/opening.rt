@@ -24,7 +24,7 @@ fn wipe(s: &mut [u64])
 
 // Clears every row and figure and sets the admin. Answers 0, or the code that it is refused with, every bit as before.
 pub fn fresh(stakes: &mut [u64], offers: &mut [u64], books: &mut [u64], admin: Account) -> u64
-    ensures { λ r. ⌜ renewed r (tables (now (stakes .exit)) (now (offers .exit)) (now (books .exit))) ≡ freshWords (tables (now (stakes .entry)) (now (offers .entry)) (now (books .entry))) (admin .0) ⌝ }
+    ensures { λ r. ⌜ renewed r (tables (now (stakes .exit)) (now (offers .exit)) (now (books .exit))) ≡ freshWords (tables (now (stakes .entry)) (now (offers .entry)) (now (books .entry))) admin ⌝ }
 {
     if admin.0 == 0 {
         return MALFORMED;

@@ -11,11 +11,13 @@ use rules::limits::LAST_POOL;
 use rules::limits::LAST_TIME;
 use rules::limits::LIMIT;
 ghost use mathlib.Core.Path.{_≡_};
-ghost use Prim.Native.Nat.{_/_, _≤_};
-ghost use lib.ListN.{length};
+ghost use Prim.Native.Nat.{_≤_};
+ghost use Rattle.rules.specs.Limits.{mostStakes, mostOffers};
 ghost use Rattle.rules.specs.Formed.{stakeTest, offerTest};
-ghost use Rattle.books.specs.Held.{stakeOf, offerOf};
-ghost use Rattle.books.specs.Passes.{noPass, StakesPassed, OffersPassed};
+ghost use Rattle.books.specs.Layout.{stakeWidth, offerWidth};
+ghost use Rattle.books.specs.Tables.{roomOf};
+ghost use Rattle.books.specs.inner.Held.{stakeOf, offerOf};
+ghost use Rattle.books.specs.inner.Passes.{noPass, StakesPassed, OffersPassed};
 
 // Whether the rows are in order; and where they are, the number of used rows and the sum of each pool.
 pub struct Pass {
@@ -61,7 +63,7 @@ fn offer_test(row: OfferLine) -> bool
 
 // The stake rows; a pool's sum is a signed word.
 pub fn stakes_pass(stakes: &[u64]) -> Pass
-    requires { ⌜ length (now stakes) / 5 ≤ 1_024 ⌝ }
+    requires { ⌜ roomOf stakeWidth (now stakes) ≤ mostStakes ⌝ }
     ensures { λ r. ⌜ StakesPassed (now (stakes .entry)) r ⌝ }
 {
     let room = stakes.len() / STAKE_WIDTH;
@@ -99,7 +101,7 @@ pub fn stakes_pass(stakes: &[u64]) -> Pass
 
 // The offer rows; a pool's sum is what they reserve and have not paid.
 pub fn offers_pass(offers: &[u64]) -> Pass
-    requires { ⌜ length (now offers) / 4 ≤ 512 ⌝ }
+    requires { ⌜ roomOf offerWidth (now offers) ≤ mostOffers ⌝ }
     ensures { λ r. ⌜ OffersPassed (now (offers .entry)) r ⌝ }
 {
     let room = offers.len() / OFFER_WIDTH;

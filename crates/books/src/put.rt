@@ -5,8 +5,8 @@ use rows::Place;
 ghost use mathlib.Core.Path.{_≡_};
 ghost use Prim.Native.Nat.{_*_, _≤_, _<_};
 ghost use lib.ListN.{length};
-ghost use Rattle.rows.specs.Rows.{Sorted};
-ghost use Rattle.books.specs.Put.{putWords, putCount, placeFor};
+ghost use Rattle.rows.specs.inner.Order.{Sorted};
+ghost use Rattle.books.specs.inner.Put.{putWords, putCount, placeFor};
 
 // Puts a row in its place among the first `used` rows, or takes the row with its key out where it is gone. Answers the number of used rows.
 pub fn put_row(s: &mut [u64], width: usize, used: usize, row: &[u64], gone: bool) -> usize

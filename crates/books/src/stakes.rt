@@ -1,4 +1,4 @@
-// Stake rows by value: read, found, written, put.
+// Stake rows by value: read, found, rowWritten, put.
 use crate::layout::ACCRUAL;
 use crate::layout::NUMBER;
 use crate::layout::POOL;
@@ -12,12 +12,13 @@ ghost use mathlib.Core.Path.{_≡_};
 ghost use mathlib.Core.Bool.{true};
 ghost use Prim.Native.Nat.{_+_, _*_, _≤_};
 ghost use lib.ListN.{length};
-ghost use Rattle.rows.specs.Rows.{written};
+ghost use Rattle.rows.specs.inner.Moves.{rowWritten};
 ghost use Rattle.rules.specs.Books.{stakeGone};
 ghost use Rattle.rules.specs.Sharing.{sharer};
+ghost use Rattle.books.specs.Layout.{stakeWidth};
 ghost use Rattle.books.specs.Tables.{usedOf, tidy};
 ghost use Rattle.books.specs.Words.{stakeRowAt, stakeWords};
-ghost use Rattle.books.specs.Held.{stakeOf, stakeFor, HeldStakes, CanPutStake, StakePut};
+ghost use Rattle.books.specs.inner.Held.{stakeOf, stakeFor, HeldStakes, CanPutStake, StakePut};
 
 // A stake row. `stake` is a signed word.
 pub struct Stake {
@@ -30,7 +31,7 @@ pub struct Stake {
 
 // Row i.
 pub fn stake_at(stakes: &[u64], i: usize) -> Stake
-    requires { ⌜ i * 5 + 5 ≤ length (now stakes) ⌝ }
+    requires { ⌜ i * stakeWidth + stakeWidth ≤ length (now stakes) ⌝ }
     ensures { λ r. ⌜ stakeOf r ≡ stakeRowAt (now (stakes .entry)) i ⌝ }
 {
     Stake {
@@ -45,7 +46,7 @@ pub fn stake_at(stakes: &[u64], i: usize) -> Stake
 // An account's row in a pool, empty where it has none.
 pub fn read_stake(stakes: &[u64], used: usize, pool: u64, account: Account) -> Stake
     requires { ⌜ HeldStakes (now stakes) used ⌝ }
-    ensures { λ r. ⌜ stakeOf r ≡ stakeFor pool (account .0) (now (stakes .entry)) ⌝ }
+    ensures { λ r. ⌜ stakeOf r ≡ stakeFor pool account (now (stakes .entry)) ⌝ }
 {
     match rows::find(stakes, STAKE_WIDTH, used, pool, account.0) {
         Place::At(i) => stake_at(stakes, i),
@@ -61,8 +62,8 @@ pub fn read_stake(stakes: &[u64], used: usize, pool: u64, account: Account) -> S
 
 // The number of used rows.
 pub fn used_stakes(stakes: &[u64]) -> usize
-    requires { ⌜ tidy 5 (now stakes) ≡ true ⌝ }
-    ensures { λ r. ⌜ r ≡ usedOf 5 (now (stakes .entry)) ⌝ }
+    requires { ⌜ tidy stakeWidth (now stakes) ≡ true ⌝ }
+    ensures { λ r. ⌜ r ≡ usedOf stakeWidth (now (stakes .entry)) ⌝ }
 {
     rows::used_rows(stakes, STAKE_WIDTH)
 }
@@ -82,7 +83,7 @@ pub fn is_sharer(row: Stake, pool: u64) -> bool
 }
 
 // A row as its words.
-fn words_of(row: Stake) -> [u64; 5]
+fn words_of(row: Stake) -> [u64; STAKE_WIDTH]
     ensures { λ r. ⌜ r ≡ stakeWords (stakeOf row) ⌝ }
 {
     [row.pool, row.account, row.stake, row.since, row.accrual]
@@ -90,8 +91,8 @@ fn words_of(row: Stake) -> [u64; 5]
 
 // Writes a row as row i.
 pub fn write_stake(stakes: &mut [u64], i: usize, row: Stake)
-    requires { ⌜ i * 5 + 5 ≤ length (now stakes) ⌝ }
-    ensures { λ _. ⌜ now (stakes .exit) ≡ written (now (stakes .entry)) 5 i (stakeWords (stakeOf row)) ⌝ }
+    requires { ⌜ i * stakeWidth + stakeWidth ≤ length (now stakes) ⌝ }
+    ensures { λ _. ⌜ now (stakes .exit) ≡ rowWritten (now (stakes .entry)) stakeWidth i (stakeWords (stakeOf row)) ⌝ }
 {
     let words = words_of(row);
     rows::write_row(stakes, STAKE_WIDTH, i, &words);

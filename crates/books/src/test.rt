@@ -14,13 +14,14 @@ use rules::limits::GREATEST_RATE;
 ghost use mathlib.Core.Path.{_≡_};
 ghost use Prim.Native.Nat.{_+_, _≤_};
 ghost use lib.ListN.{length};
+ghost use Rattle.books.specs.Layout.{pools, booksWords};
 ghost use Rattle.books.specs.Words.{tables, goodTables};
-ghost use Rattle.books.specs.Passes.{sameFour, settingsTest};
+ghost use Rattle.books.specs.inner.Passes.{sameSums, settingsTest};
 
 // Whether the four words of the books from index `from` on are these sums.
 fn same_sums(books: &[u64], from: usize, sums: [u64; POOLS]) -> bool
-    requires { ⌜ from + 4 ≤ length (now books) ⌝ }
-    ensures { λ r. ⌜ r ≡ sameFour (now (books .entry)) from sums ⌝ }
+    requires { ⌜ from + pools ≤ length (now books) ⌝ }
+    ensures { λ r. ⌜ r ≡ sameSums (now (books .entry)) from sums ⌝ }
 {
     (books[from] == sums[0])
         & (books[from + 1] == sums[1])
@@ -30,7 +31,7 @@ fn same_sums(books: &[u64], from: usize, sums: [u64; POOLS]) -> bool
 
 // Whether the settings are in order.
 fn settings_test(books: &[u64]) -> bool
-    requires { ⌜ length (now books) ≡ 12 ⌝ }
+    requires { ⌜ length (now books) ≡ booksWords ⌝ }
     ensures { λ r. ⌜ r ≡ settingsTest (now (books .entry)) ⌝ }
 {
     (books[ADMIN] != 0) & (books[PAUSED] <= 1) & (books[RATE] <= GREATEST_RATE)

@@ -60,4 +60,4 @@ module _ (time : ℕ) (signer : Account) where
   pub rate-asked : (c : RateCall) → Fits (Rate c) → RateAsked time c
   rate-asked c e =
       let t = met (Rate c) e in
-      record { time-is = leb-true time lastTime (t 0); rate-is = let h = t 3 in omega (arith, whole, h) }
+      record { time-is = leb-true time lastTime (t 0); rate-is = let h = t 6 in omega (arith, whole, h) }

@@ -7,7 +7,7 @@ use native.Mathlib.Omega.{arith}
 use lib.ListN.{length, take, drop, length-append, take-append-drop, List·getD-append}
 use lib.Seq.{getD-append-add, length-take-le, take-at}
 use Rattle.log.specs.Bytes.{byteAt, wordAt}
-use Rattle.log.specs.Records.{recordOf}
+use Rattle.log.specs.Records.{recordBytes, recordOf}
 use Rattle.history.specs.Replays.{callsFrom, callsOf}
 
 -- ---- a record in the first part, and one in the second
@@ -29,7 +29,7 @@ module _ (a b : List ℕ) where
         byte-first (i + 7) (omega arith),
       )
 
-  record-first : (i : ℕ) → i + 48 ≤ length a → recordOf (a ++ b) i ≡ recordOf a i
+  record-first : (i : ℕ) → i + recordBytes ≤ length a → recordOf (a ++ b) i ≡ recordOf a i
   unfolding recordOf
   record-first i h =
       rw (
@@ -54,55 +54,55 @@ module _ (a b : List ℕ) where
 
   -- ---- the calls of some records
 
-  calls-first : (k at : ℕ) → at + 48 * k ≤ length a → callsFrom k (a ++ b) at ≡ callsFrom k a at
+  calls-first : (k at : ℕ) → at + recordBytes * k ≤ length a → callsFrom k (a ++ b) at ≡ callsFrom k a at
   unfolding callsFrom
   calls-first zero at h = refl
-  calls-first (suc k) at h = rw (record-first at (omega arith), calls-first k (at + 48) (omega arith))
+  calls-first (suc k) at h = rw (record-first at (omega arith), calls-first k (at + recordBytes) (omega arith))
 
   calls-second : (k at : ℕ) → callsFrom k (a ++ b) (length a + at) ≡ callsFrom k b at
   unfolding callsFrom
   calls-second zero at = refl
-  calls-second (suc k) at = rw (record-second at, add-assoc (length a) at 48, calls-second k (at + 48))
+  calls-second (suc k) at = rw (record-second at, add-assoc (length a) at recordBytes, calls-second k (at + recordBytes))
 
-calls-join : (j k : ℕ) (bytes : List ℕ) (at : ℕ) → callsFrom (j + k) bytes at ≡ callsFrom j bytes at ++ callsFrom k bytes (at + 48 * j)
+calls-join : (j k : ℕ) (bytes : List ℕ) (at : ℕ) → callsFrom (j + k) bytes at ≡ callsFrom j bytes at ++ callsFrom k bytes (at + recordBytes * j)
 unfolding callsFrom
 calls-join zero k bytes at =
     let n : 0 + k ≡ k = omega arith in
-    let p : at + 48 * 0 ≡ at = omega arith in
+    let p : at + recordBytes * 0 ≡ at = omega arith in
     rw (n, p)
 calls-join (suc j) k bytes at =
     let n : suc j + k ≡ suc (j + k) = omega arith in
-    let p : at + 48 + 48 * j ≡ at + 48 * suc j = omega arith in
-    rw (n, calls-join j k bytes (at + 48), p)
+    let p : at + recordBytes + recordBytes * j ≡ at + recordBytes * suc j = omega arith in
+    rw (n, calls-join j k bytes (at + recordBytes), p)
 
 pub calls-count : (k : ℕ) (bytes : List ℕ) (at : ℕ) → length (callsFrom k bytes at) ≡ k
 unfolding callsFrom
 calls-count zero bytes at = refl
-calls-count (suc k) bytes at = ap suc (calls-count k bytes (at + 48))
+calls-count (suc k) bytes at = ap suc (calls-count k bytes (at + recordBytes))
 
 -- whole records and what comes behind them
-pub calls-parts : (a b : List ℕ) (j : ℕ) → length a ≡ 48 * j → callsOf (a ++ b) ≡ callsOf a ++ callsOf b
+pub calls-parts : (a b : List ℕ) (j : ℕ) → length a ≡ recordBytes * j → callsOf (a ++ b) ≡ callsOf a ++ callsOf b
 unfolding callsOf
 calls-parts a b j e =
-    let m : ℕ = length b / 48 in
-    let n : length (a ++ b) / 48 ≡ j + m = omega (arith, length-append a b) in
-    let first : length a / 48 ≡ j = omega arith in
-    let place : 0 + 48 * j ≡ length a + 0 = omega arith in
+    let m : ℕ = length b / recordBytes in
+    let n : length (a ++ b) / recordBytes ≡ j + m = omega (arith, length-append a b) in
+    let first : length a / recordBytes ≡ j = omega arith in
+    let place : 0 + recordBytes * j ≡ length a + 0 = omega arith in
     ap (λ (k : ℕ). callsFrom k (a ++ b) 0) n
     ∙ calls-join j m (a ++ b) 0
     ∙ rw (place, calls-second a b m 0, calls-first a b j 0 (omega arith), first)
 
-pub records-within : (bytes : List ℕ) (n : ℕ) → n ≤ length (callsOf bytes) → 48 * n ≤ length bytes
+pub records-within : (bytes : List ℕ) (n : ℕ) → n ≤ length (callsOf bytes) → recordBytes * n ≤ length bytes
 unfolding callsOf
-records-within bytes n h = omega (arith, calls-count (length bytes / 48) bytes 0)
+records-within bytes n h = omega (arith, calls-count (length bytes / recordBytes) bytes 0)
 
 -- the first n calls are those of the first n records
-pub calls-front : (bytes : List ℕ) (n : ℕ) → n ≤ length (callsOf bytes) → take n (callsOf bytes) ≡ callsOf (take (48 * n) bytes)
+pub calls-front : (bytes : List ℕ) (n : ℕ) → n ≤ length (callsOf bytes) → take n (callsOf bytes) ≡ callsOf (take (recordBytes * n) bytes)
 unfolding callsOf
 calls-front bytes n h =
-    let a = take (48 * n) bytes in
-    let size : length a ≡ 48 * n = length-take-le (48 * n) bytes (records-within bytes n h) in
-    let count : length (callsOf a) ≡ n = calls-count (length a / 48) a 0 ∙ (omega arith) in
-    ap (λ (s : List ℕ). take n (callsOf s)) (sym (take-append-drop (48 * n) bytes))
-    ∙ ap (take n) (calls-parts a (drop (48 * n) bytes) n size)
-    ∙ take-at (callsOf a) (callsOf (drop (48 * n) bytes)) n count
+    let a = take (recordBytes * n) bytes in
+    let size : length a ≡ recordBytes * n = length-take-le (recordBytes * n) bytes (records-within bytes n h) in
+    let count : length (callsOf a) ≡ n = calls-count (length a / recordBytes) a 0 ∙ (omega arith) in
+    ap (λ (s : List ℕ). take n (callsOf s)) (sym (take-append-drop (recordBytes * n) bytes))
+    ∙ ap (take n) (calls-parts a (drop (recordBytes * n) bytes) n size)
+    ∙ take-at (callsOf a) (callsOf (drop (recordBytes * n) bytes)) n count

@@ -13,11 +13,11 @@ use Rattle.rules.specs.declared.Answer.{Answer}
 use Rattle.books.specs.Words.{Tables, Result, goodTables, result, stepWords}
 use Rattle.books.specs.Runs.{runWords}
 use Rattle.books.proofs.Carried.{step-carried}
-use Rattle.log.specs.Records.{recordOf}
+use Rattle.log.specs.Records.{recordBytes, recordOf}
 use Rattle.log.specs.Lines.{answerText, longest}
-use Rattle.log.specs.Written.{written, Wrote}
+use Rattle.log.specs.Written.{Wrote}
 use Rattle.log.proofs.Writing.{wrote-none, wrote-more}
-use Rattle.history.specs.Replays.{callsFrom, callsOf, textOf, textsOf, fitting, outcome, replayed}
+use Rattle.history.specs.Replays.{callsFrom, callsOf, textOf, textsOf, fitting, partRun, replayed}
 use Rattle.history.specs.Bounds.{Bounded}
 use Rattle.history.proofs.Parts.{words-parts, texts-parts}
 
@@ -45,9 +45,9 @@ module _ (t₀ : Tables) (records text₀ : List ℕ) (number₀ : ℕ) where
     pub words : t ≡ runWords t₀ ran
     pub wrote : Wrote text₀ 0 (textsOf t₀ number₀ ran) text at
     pub numbered : number ≡ number₀ + length ran
-    pub placed : taken ≡ 48 * length ran
-    pub least : taken + 48 * left ≤ length records
-    pub most : length records < taken + 48 * left + 48
+    pub placed : taken ≡ recordBytes * length ran
+    pub least : taken + recordBytes * left ≤ length records
+    pub most : length records < taken + recordBytes * left + recordBytes
     pub room : at ≤ length text₀
     pub good : goodTables t ≡ true
 
@@ -57,7 +57,7 @@ module _ (t₀ : Tables) (records text₀ : List ℕ) (number₀ : ℕ) where
       let none : length text₀ - 0 ≡ length text₀ = omega arith in
       record {
         ran = [];
-        left = length records / 48;
+        left = length records / recordBytes;
         split = refl;
         fits = rw none (omega arith);
         words = refl;
@@ -71,9 +71,9 @@ module _ (t₀ : Tables) (records text₀ : List ℕ) (number₀ : ℕ) where
       }
 
   module _ (t : Tables) (text : List ℕ) (number taken at : ℕ) (h : Reached t text number taken at) where
-    -- nothing more runs from here: this is the outcome
+    -- nothing more runs from here: this is what the part comes to
     stopped : fitting (length text₀ - at) t number (callsFrom (h .left) records taken) ≡ 0
-        → outcome (record { number = number; taken = taken; written = at }) t text ≡ replayed t₀ records text₀ number₀
+        → partRun (record { number = number; taken = taken; printed = at }) t text ≡ replayed t₀ records text₀ number₀
     unfolding replayed
     stopped none =
         let n : fitting (length text₀) t₀ number₀ (callsOf records) ≡ length (h .ran) = rw none at (h .fits) ∙ (omega arith) in
@@ -83,48 +83,48 @@ module _ (t₀ : Tables) (records text₀ : List ℕ) (number₀ : ℕ) where
         rw (n, front, h .words, h .numbered, h .placed, h .wrote .bytes, end)
 
     -- no whole record is left
-    stopped-short : length records - taken < 48 → outcome (record { number = number; taken = taken; written = at }) t text ≡ replayed t₀ records text₀ number₀
+    stopped-short : length records - taken < recordBytes → partRun (record { number = number; taken = taken; printed = at }) t text ≡ replayed t₀ records text₀ number₀
     unfolding callsFrom fitting
     stopped-short e =
         let z : h .left ≡ 0 = omega arith in
         stopped (ap (λ (k : ℕ). fitting (length text₀ - at) t number (callsFrom k records taken)) z)
 
     -- no room is left
-    stopped-full : length text₀ - at < longest → outcome (record { number = number; taken = taken; written = at }) t text ≡ replayed t₀ records text₀ number₀
+    stopped-full : length text₀ - at < longest → partRun (record { number = number; taken = taken; printed = at }) t text ≡ replayed t₀ records text₀ number₀
     stopped-full e = stopped (none-fits (length text₀ - at) t number (callsFrom (h .left) records taken) e)
 
     -- what a caller goes on with, stopped for either reason
-    bounded : (length records - taken < 48) ⊎ (length text₀ - at < longest) → Bounded t records text₀ number₀ (record { number = number; taken = taken; written = at })
+    bounded : (length records - taken < recordBytes) ⊎ (length text₀ - at < longest) → Bounded t records text₀ number₀ (record { number = number; taken = taken; printed = at })
     unfolding textsOf
     bounded why =
         record {
           good = h .good;
           taken = omega (arith, h .least);
-          written = h .room;
+          printed = h .room;
           counted = omega (arith, h .numbered, h .placed);
           some = λ whole room. some whole room (h .ran) refl why;
         }
       where
-        some : 48 ≤ length records → longest ≤ length text₀ → (ran : List Call) → h .ran ≡ ran → (length records - taken < 48) ⊎ (length text₀ - at < longest) → number₀ < number
+        some : recordBytes ≤ length records → longest ≤ length text₀ → (ran : List Call) → h .ran ≡ ran → (length records - taken < recordBytes) ⊎ (length text₀ - at < longest) → number₀ < number
         some whole room [] e (inl short) = omega (arith, h .placed, ap length e)
         some whole room [] e (inr full) = omega (arith, rw e at (h .wrote .place))
         some whole room (c ∷ ran) e why = omega (arith, h .numbered, ap length e)
 
     -- so the contract holds there
-    pub stops-here : (length records - taken < 48) ⊎ (length text₀ - at < longest)
-        → (outcome (record { number = number; taken = taken; written = at }) t text ≡ replayed t₀ records text₀ number₀) × Bounded t records text₀ number₀ (record { number = number; taken = taken; written = at })
+    pub stops-here : (length records - taken < recordBytes) ⊎ (length text₀ - at < longest)
+        → (partRun (record { number = number; taken = taken; printed = at }) t text ≡ replayed t₀ records text₀ number₀) × Bounded t records text₀ number₀ (record { number = number; taken = taken; printed = at })
     stops-here (inl short) = (stopped-short short, bounded (inl short))
     stops-here (inr full) = (stopped-full full, bounded (inr full))
 
     -- a record runs
-    pub reached-next : taken + 48 ≤ length records → at + longest ≤ length text₀
+    pub reached-next : taken + recordBytes ≤ length records → at + longest ≤ length text₀
         → (a : Answer) (t₁ : Tables) (text₁ : List ℕ) (next : ℕ) → result a t₁ ≡ stepWords t (recordOf records taken) → Wrote text at (answerText (number + 1) a) text₁ next → next ≤ at + longest
-        → Reached t₁ text₁ (number + 1) (taken + 48) next
+        → Reached t₁ text₁ (number + 1) (taken + recordBytes) next
     unfolding callsFrom runWords textsOf
     reached-next whole room a t₁ text₁ next e w short =
         let c = recordOf records taken in
         let k : ℕ = h .left - 1 in
-        let rest = callsFrom k records (taken + 48) in
+        let rest = callsFrom k records (taken + recordBytes) in
         let more : h .left ≡ suc k = omega arith in
         let front : callsFrom (h .left) records taken ≡ c ∷ rest = ap (λ (n : ℕ). callsFrom n records taken) more in
         let answer : a ≡ stepWords t c .answer = ap (λ (r : Result). r .answer) e in

@@ -10,6 +10,7 @@ use lib.Dec.{ltb}
 use lib.ListN.{length, take, length-append}
 use Rattle.rules.specs.declared.Call.{Call}
 use Rattle.books.specs.Words.{Tables, stepWords}
+use Rattle.log.specs.Records.{recordBytes}
 use Rattle.log.specs.Lines.{longest}
 use Rattle.history.specs.Replays.{callsOf, textOf, textsOf, fitting, replayed}
 use Rattle.history.proofs.Bytes.{calls-count}
@@ -50,10 +51,10 @@ fits-within room t number (c ∷ calls) =
 
 -- fewer bytes than a record's are left of the log, or fewer than the longest text's of the room
 pub replay-stops : (t : Tables) (records room : List ℕ) (number : ℕ)
-    → (length records - replayed t records room number .progress .taken < 48) ⊎ (length room - replayed t records room number .progress .written < longest)
+    → (length records - replayed t records room number .progress .taken < recordBytes) ⊎ (length room - replayed t records room number .progress .printed < longest)
 unfolding replayed callsOf
 replay-stops t records room number = stops (fitting (length room) t number (callsOf records)) (most (length room) t number (callsOf records))
   where
-    stops : (n : ℕ) → Most (length room) t number (callsOf records) n → (length records - 48 * n < 48) ⊎ (length room - length (textsOf t number (take n (callsOf records))) < longest)
-    stops n (inl e) = inl (omega (arith, calls-count (length records / 48) records 0))
+    stops : (n : ℕ) → Most (length room) t number (callsOf records) n → (length records - recordBytes * n < recordBytes) ⊎ (length room - length (textsOf t number (take n (callsOf records))) < longest)
+    stops n (inl e) = inl (omega (arith, calls-count (length records / recordBytes) records 0))
     stops n (inr e) = inr e

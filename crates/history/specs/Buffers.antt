@@ -4,5 +4,5 @@ use Prim.Native.Nat.{ℕ}
 use lib.ListN.{take, drop}
 
 -- n bytes from `from` on, at the front, and the bytes behind them as they were
-abbrev pub moved : List ℕ → ℕ → ℕ → List ℕ
-moved bytes from n = take n (drop from bytes) ++ drop n bytes
+abbrev pub atFront : List ℕ → ℕ → ℕ → List ℕ
+atFront bytes from n = take n (drop from bytes) ++ drop n bytes

@@ -7,7 +7,7 @@ use lib.ListN.{length, take}
 use Rattle.rules.specs.declared.Call.{Call}
 use Rattle.books.specs.Words.{Tables, stepWords}
 use Rattle.books.specs.Runs.{runWords}
-use Rattle.log.specs.Records.{recordOf}
+use Rattle.log.specs.Records.{recordBytes, recordOf}
 use Rattle.log.specs.Lines.{answerText, longest}
 use Rattle.log.specs.Written.{written}
 use Rattle.history.specs.declared.Progress.{Progress}
@@ -15,11 +15,11 @@ use Rattle.history.specs.declared.Progress.{Progress}
 -- "Record, 48 bytes": the calls of k records from byte `at` on
 unfoldable pub callsFrom : ℕ → List ℕ → ℕ → List Call
 callsFrom zero bytes at = []
-callsFrom (suc k) bytes at = recordOf bytes at ∷ callsFrom k bytes (at + 48)
+callsFrom (suc k) bytes at = recordOf bytes at ∷ callsFrom k bytes (at + recordBytes)
 
 -- of every whole record
 unfoldable pub callsOf : List ℕ → List Call
-callsOf bytes = callsFrom (length bytes / 48) bytes 0
+callsOf bytes = callsFrom (length bytes / recordBytes) bytes 0
 
 -- "per record its number, code and two numbers, then its transfers": the text of a call that comes after `number` others
 abbrev pub textOf : Tables → ℕ → Call → List ℕ
@@ -36,18 +36,18 @@ fitting room t number [] = 0
 fitting room t number (c ∷ calls) =
     cond (ltb room longest) 0 (suc (fitting (room - length (textOf t number c)) (stepWords t c .tables) (number + 1) calls))
 
-pub record Outcome : Type 0 where
+pub record PartRun : Type 0 where
   pub progress : Progress
   pub tables : Tables
   pub text : List ℕ
 
-abbrev pub outcome : Progress → Tables → List ℕ → Outcome
-outcome p t text = record { progress = p; tables = t; text = text }
+abbrev pub partRun : Progress → Tables → List ℕ → PartRun
+partRun p t text = record { progress = p; tables = t; text = text }
 
 -- the first calls of the records, as many as fit: the tables after them, and their texts from the first byte of the room on
-unfoldable pub replayed : Tables → List ℕ → List ℕ → ℕ → Outcome
+unfoldable pub replayed : Tables → List ℕ → List ℕ → ℕ → PartRun
 replayed t records room number =
     let n = fitting (length room) t number (callsOf records) in
     let calls = take n (callsOf records) in
     let text = textsOf t number calls in
-    outcome (record { number = number + n; taken = 48 * n; written = length text }) (runWords t calls) (written room 0 text)
+    partRun (record { number = number + n; taken = recordBytes * n; printed = length text }) (runWords t calls) (written room 0 text)

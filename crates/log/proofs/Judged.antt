@@ -1,111 +1,106 @@
--- A record is Malformed exactly where one of document 01's tests of code 1 fails.
+-- A record is Malformed exactly where one of document 01's tests of code 1 fails: the case that is read keeps the fields in use, and the
+-- others, which it has no more, were tested before.
 use mathlib.Core.Path.{_≡_, refl, sym, ap, _∙_}
-use mathlib.Core.Bool.{Bool, true, false, not, cond, _&&_}
-use mathlib.Core.List.{List, [], _∷_}
+use mathlib.Core.Bool.{Bool, true, false, not, cond, _&&_, and-true, and-false}
+use mathlib.Core.List.{List, [], _∷_, map}
 use Prim.Native.Nat.{ℕ, zero, suc}
-use native.Mathlib.Omega.{arith}
-use borrow.Author.Tests.{le-leb, lt-leb}
 use lib.Dec.{leb, eqb}
 use lib.IntN.{pos}
-use lib.Signed.{leZ}
-use mir.Syntax.{w64}
-use mir.Val.{toZ}
-use Rattle.rules.specs.Limits.{lastTime, flat, isPool, isNumber}
+use lib.ListN.{getD}
+use Rattle.rules.specs.Limits.{lastTime, isNumber}
 use Rattle.rules.specs.Table.{each, all}
+use Rattle.rules.specs.Books.{isZero}
+use Rattle.rules.specs.Operations.{Need, unused, used, meets, Line, none, operations, lineOf, entry, lineTests, entryTests}
 use Rattle.rules.specs.Step.{fieldTests, malformed}
 use Rattle.rules.specs.declared.Operation.{Operation}
 use Rattle.rules.specs.declared.Operation.the-variants.{Unknown}
-use Rattle.rules.proofs.Tests.{and-left, and-right}
-use Rattle.log.specs.declared.records.Fields.{Fields}
-use Rattle.log.specs.Records.{fieldsAt, cases, operationOf, recordOf}
+use Rattle.rules.specs.declared.Entry.{Entry}
+use Rattle.log.specs.Records.{recordAt, byNumber, spare, sparesNil, operationOf, recordOf}
 use Rattle.log.specs.Malformed.{recordTests}
 
--- ---- two functions of k tests agree where they do at each of the 2 ^ k choices, which computes
+-- ---- a field: its need is that it is 0 where it is not in use, and what the case that is read meets
 
-abbrev Tests : ℕ → Type 0
-Tests zero = Bool
-Tests (suc k) = Bool → Tests k
+abbrev kept : {A : Type 0} → A → Need A → A → A
+kept o unused x = o
+kept o (used test) x = x
 
-same : (k : ℕ) → Tests k → Tests k → Bool
-same zero true b = b
-same zero false b = not b
-same (suc k) f g = same k (f true) (g true) && same k (f false) (g false)
+met : {A : Type 0} (nil : A → Bool) (o : A) → nil o ≡ true → (n : Need A) (x : A) → meets nil n x ≡ (spare nil n x && meets nil n (kept o n x))
+met nil o z unused x = rw z (sym (and-true (nil x)))
+met nil o z (used test) x = refl
 
-abbrev Agree : (k : ℕ) → Tests k → Tests k → Type 0
-Agree zero a b = a ≡ b
-Agree (suc k) f g = (t : Bool) → Agree k (f t) (g t)
+-- ---- an entry: the same, of its five fields
 
-both : (P : Bool → Type 0) → P true → P false → (t : Bool) → P t
-both P p q true = p
-both P p q false = q
+abbrev keptBy : Line → Entry → Entry
+keptBy l e = entry (e .number) (kept 0 (l .pool) (e .pool)) (kept 0 (l .subject) (e .subject)) (kept 0 (l .other) (e .other)) (kept 0 (l .reply) (e .reply)) (kept (pos 0) (l .amount) (e .amount))
 
-agree : (k : ℕ) (f g : Tests k) → same k f g ≡ true → Agree k f g
-unfolding same
-agree zero true b e = sym e
-agree zero false true e = e
-agree zero false false e = refl
-agree (suc k) f g e =
-    both (λ (t : Bool). Agree k (f t) (g t))
-    (agree k (f true) (g true) (and-left (same k (f true) (g true)) (same k (f false) (g false)) e))
-    (agree k (f false) (g false) (and-right (same k (f true) (g true)) (same k (f false) (g false)) e))
+both : (pairs : List (Bool × Bool)) → all (map (λ (p : Bool × Bool). p .0 && p .1) pairs) ≡ (all (map (λ (p : Bool × Bool). p .0) pairs) && all (map (λ (p : Bool × Bool). p .1) pairs))
+unfolding each
+both [] = refl
+both ((true, true) ∷ pairs) = both pairs
+both ((true, false) ∷ pairs) = sym (and-false (all (map (λ (p : Bool × Bool). p .0) pairs)))
+both ((false, t) ∷ pairs) = refl
 
--- ---- the tests of a record, by its operation: p, r, u, o and a are those of pool, reply, subject, other and amount in use, p₀ .. a₀
--- that a field is 0, z that the five bytes are, n and s those of time and signer
+abbrev nil : ℕ → Bool
+nil n = eqb n 0
 
-known : (z b : Bool) (o : Operation) → fieldTests (cond z (cond b o Unknown) Unknown) ≡ cond (z && b) (fieldTests o) (false ∷ [])
-known true true o = refl
-known true false o = refl
-known false b o = refl
+line-met : (l : Line) (e : Entry) → all (lineTests l e) ≡ (sparesNil l e && all (lineTests l (keptBy l e)))
+line-met l e =
+    let k = keptBy l e in
+    (λ i. all (met nil 0 refl (l .pool) (e .pool) i ∷ met nil 0 refl (l .subject) (e .subject) i ∷ met nil 0 refl (l .other) (e .other) i ∷ met nil 0 refl (l .reply) (e .reply) i ∷ met isZero (pos 0) refl (l .amount) (e .amount) i ∷ []))
+    ∙ both
+    ((spare nil (l .pool) (e .pool), meets nil (l .pool) (k .pool))
+    ∷ (spare nil (l .subject) (e .subject), meets nil (l .subject) (k .subject))
+    ∷ (spare nil (l .other) (e .other), meets nil (l .other) (k .other))
+    ∷ (spare nil (l .reply) (e .reply), meets nil (l .reply) (k .reply))
+    ∷ (spare isZero (l .amount) (e .amount), meets isZero (l .amount) (k .amount))
+    ∷ [])
 
-unknown : (z n s : Bool) → all (n ∷ s ∷ fieldTests (cond z Unknown Unknown)) ≡ all (z ∷ false ∷ [])
-unfolding each same
-unknown = agree 3 _ _ refl
+-- ---- each line and its case, side by side
 
-staking : (z n s p u r₀ o₀ : Bool) → all (n ∷ s ∷ cond (z && (r₀ && (o₀ && true))) (p ∷ u ∷ []) (false ∷ [])) ≡ all (z ∷ true ∷ n ∷ s ∷ p ∷ r₀ ∷ u ∷ o₀ ∷ true ∷ [])
-unfolding each same
-staking = agree 7 _ _ refl
+abbrev Side : {A B : Type 0} → (A → B → Type 0) → List A → List B → Type 0
+Side P [] [] = Unit {0}
+Side P [] (y ∷ ys) = ⊥
+Side P (x ∷ xs) [] = ⊥
+Side P (x ∷ xs) (y ∷ ys) = P x y × Side P xs ys
 
-paying : (z n s p r u o : Bool) → all (n ∷ s ∷ cond (z && true) (p ∷ r ∷ u ∷ o ∷ []) (false ∷ [])) ≡ all (z ∷ true ∷ n ∷ s ∷ p ∷ r ∷ u ∷ o ∷ true ∷ [])
-unfolding each same
-paying = agree 7 _ _ refl
+side-at : {A B : Type 0} (P : A → B → Type 0) (x : A) (y : B) → P x y → (xs : List A) (ys : List B) → Side P xs ys → (n : ℕ) → P (getD xs n x) (getD ys n y)
+side-at P x y p [] [] s n = p
+side-at P x y p [] (b ∷ ys) s n = absurd s
+side-at P x y p (a ∷ xs) [] s n = absurd s
+side-at P x y p (a ∷ xs) (b ∷ ys) s zero = s .0
+side-at P x y p (a ∷ xs) (b ∷ ys) s (suc n) = side-at P x y p xs ys (s .1) n
 
-claiming : (z n s p u o r₀ : Bool) → all (n ∷ s ∷ cond (z && (r₀ && true)) (p ∷ u ∷ o ∷ []) (false ∷ [])) ≡ all (z ∷ true ∷ n ∷ s ∷ p ∷ r₀ ∷ u ∷ o ∷ true ∷ [])
-unfolding each same
-claiming = agree 7 _ _ refl
+-- the case has the line's fields in use, and 0 for the others
+case-met : (e : Entry) (n : ℕ) → all (lineTests (lineOf n) (keptBy (lineOf n) e)) ≡ all (fieldTests (getD (byNumber e) n Unknown))
+unfolding byNumber each
+case-met e n = side-at (λ (l : Line) (o : Operation). all (lineTests l (keptBy l e)) ≡ all (fieldTests o)) none Unknown refl operations (byNumber e) (refl, (refl, (refl, (refl, (refl, (refl, (refl, (refl, (refl, (refl, tt)))))))))) n
 
-rating : (z n s p₃ a r₀ u₀ o₀ : Bool) → all (n ∷ s ∷ cond (z && (r₀ && (u₀ && (o₀ && true)))) (p₃ ∷ a ∷ []) (false ∷ [])) ≡ all (z ∷ true ∷ n ∷ s ∷ p₃ ∷ r₀ ∷ u₀ ∷ o₀ ∷ a ∷ [])
-unfolding each same
-rating = agree 8 _ _ refl
+-- ---- a record
 
-pausing : (z n s p₀ r₀ u₀ o₀ a₀ : Bool) → all (n ∷ s ∷ cond (z && (p₀ && (r₀ && (u₀ && (o₀ && (a₀ && true)))))) [] (false ∷ [])) ≡ all (z ∷ true ∷ n ∷ s ∷ p₀ ∷ r₀ ∷ u₀ ∷ o₀ ∷ a₀ ∷ [])
-unfolding each same
-pausing = agree 8 _ _ refl
+only-if : (t : Bool) (o : Operation) → all (fieldTests (cond t o Unknown)) ≡ (t && all (fieldTests o))
+unfolding each
+only-if true o = refl
+only-if false o = refl
 
-naming : (z n s u p₀ r₀ o₀ a₀ : Bool) → all (n ∷ s ∷ cond (z && (p₀ && (r₀ && (o₀ && (a₀ && true))))) (u ∷ []) (false ∷ [])) ≡ all (z ∷ true ∷ n ∷ s ∷ p₀ ∷ r₀ ∷ u ∷ o₀ ∷ a₀ ∷ [])
-unfolding each same
-naming = agree 8 _ _ refl
+operation-met : (e : Entry) → all (fieldTests (operationOf e)) ≡ all (entryTests e)
+unfolding operationOf
+operation-met e =
+    let l = lineOf (e .number) in
+    let o = getD (byNumber e) (e .number) Unknown in
+    only-if (sparesNil l e) o ∙ ap (λ (t : Bool). sparesNil l e && t) (sym (case-met e (e .number))) ∙ sym (line-met l e)
 
-opened : (f : Fields) (b : Bool) (o : Operation) → all (leb (f .now) lastTime ∷ isNumber (f .signer) ∷ fieldTests (cond (eqb (f .zeros) 0) (cond b o Unknown) Unknown)) ≡ all (leb (f .now) lastTime ∷ isNumber (f .signer) ∷ cond (eqb (f .zeros) 0 && b) (fieldTests o) (false ∷ []))
-opened f b o = ap (λ (l : List Bool). all (leb (f .now) lastTime ∷ isNumber (f .signer) ∷ l)) (known (eqb (f .zeros) 0) b o)
-
-by-number : (f : Fields) (n : ℕ) → f .operation ≡ n → all (leb (f .now) lastTime ∷ isNumber (f .signer) ∷ fieldTests (operationOf f)) ≡ all (recordTests f)
-unfolding operationOf cases recordTests each
-by-number f zero e = rw e (unknown (eqb (f .zeros) 0) (leb (f .now) lastTime) (isNumber (f .signer)))
-by-number f (suc zero) e = rw e (opened f _ _ ∙ staking (eqb (f .zeros) 0) (leb (f .now) lastTime) (isNumber (f .signer)) (isPool (f .pool)) (isNumber (f .subject)) (eqb (f .reply) 0) (eqb (f .other) 0))
-by-number f (suc (suc zero)) e = rw e (opened f _ _ ∙ staking (eqb (f .zeros) 0) (leb (f .now) lastTime) (isNumber (f .signer)) (isPool (f .pool)) (isNumber (f .subject)) (eqb (f .reply) 0) (eqb (f .other) 0))
-by-number f (suc (suc (suc zero))) e = rw e (opened f _ _ ∙ paying (eqb (f .zeros) 0) (leb (f .now) lastTime) (isNumber (f .signer)) (isPool (f .pool)) (leb (f .reply) 2) (isNumber (f .subject)) (isNumber (f .other)))
-by-number f (suc (suc (suc (suc zero)))) e = rw e (opened f _ _ ∙ staking (eqb (f .zeros) 0) (leb (f .now) lastTime) (isNumber (f .signer)) (isPool (f .pool)) (isNumber (f .subject)) (eqb (f .reply) 0) (eqb (f .other) 0))
-by-number f (suc (suc (suc (suc (suc zero))))) e = rw e (opened f _ _ ∙ claiming (eqb (f .zeros) 0) (leb (f .now) lastTime) (isNumber (f .signer)) (isPool (f .pool)) (isNumber (f .subject)) (isNumber (f .other)) (eqb (f .reply) 0))
-by-number f (suc (suc (suc (suc (suc (suc zero)))))) e = rw e (opened f _ _ ∙ rating (eqb (f .zeros) 0) (leb (f .now) lastTime) (isNumber (f .signer)) (eqb (f .pool) flat) (leZ (pos 0) (toZ w64 (f .amount))) (eqb (f .reply) 0) (eqb (f .subject) 0) (eqb (f .other) 0))
-by-number f (suc (suc (suc (suc (suc (suc (suc zero))))))) e = rw e (opened f _ _ ∙ pausing (eqb (f .zeros) 0) (leb (f .now) lastTime) (isNumber (f .signer)) (eqb (f .pool) 0) (eqb (f .reply) 0) (eqb (f .subject) 0) (eqb (f .other) 0) (eqb (f .amount) 0))
-by-number f (suc (suc (suc (suc (suc (suc (suc (suc zero)))))))) e = rw e (opened f _ _ ∙ pausing (eqb (f .zeros) 0) (leb (f .now) lastTime) (isNumber (f .signer)) (eqb (f .pool) 0) (eqb (f .reply) 0) (eqb (f .subject) 0) (eqb (f .other) 0) (eqb (f .amount) 0))
-by-number f (suc (suc (suc (suc (suc (suc (suc (suc (suc zero))))))))) e = rw e (opened f _ _ ∙ naming (eqb (f .zeros) 0) (leb (f .now) lastTime) (isNumber (f .signer)) (isNumber (f .subject)) (eqb (f .pool) 0) (eqb (f .reply) 0) (eqb (f .other) 0) (eqb (f .amount) 0))
-by-number f (suc (suc (suc (suc (suc (suc (suc (suc (suc (suc n)))))))))) e =
-    let m : ℕ = suc (suc (suc (suc (suc (suc (suc (suc (suc (suc n))))))))) in
-    rw (e, le-leb 1 m (omega arith), lt-leb m 9 (omega arith)) (unknown (eqb (f .zeros) 0) (leb (f .now) lastTime) (isNumber (f .signer)))
+-- z: the five bytes are 0; n, s: the tests of time and signer
+in-all : (z n s : Bool) (o : Operation) (tests : List Bool) → all (fieldTests o) ≡ all tests → all (n ∷ s ∷ fieldTests (cond z o Unknown)) ≡ all (z ∷ n ∷ s ∷ tests)
+unfolding each
+in-all true n s o tests h = ap (λ (t : Bool). cond n (cond s t false) false) h
+in-all false true true o tests h = refl
+in-all false true false o tests h = refl
+in-all false false s o tests h = refl
 
 -- "unknown operation, pool or registry reply; `now` too large; number 0 where one is needed ..; an unused field not 0; a rate negative
 -- or not of pool 3"
-pub judged : (s : List ℕ) (i : ℕ) → malformed (recordOf s i) ≡ not (all (recordTests (fieldsAt s i)))
-unfolding malformed recordOf
-judged s i = ap not (by-number (fieldsAt s i) (fieldsAt s i .operation) refl)
+pub judged : (s : List ℕ) (i : ℕ) → malformed (recordOf s i) ≡ not (all (recordTests (recordAt s i)))
+unfolding malformed recordOf recordTests
+judged s i =
+    let r = recordAt s i in
+    ap not (in-all (eqb (r .zeros) 0) (leb (r .now) lastTime) (isNumber (r .signer)) (operationOf (r .fields)) (entryTests (r .fields)) (operation-met (r .fields)))

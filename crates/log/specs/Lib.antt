@@ -6,3 +6,4 @@ pub mod Malformed
 pub mod Decimal
 pub mod Written
 pub mod Lines
+pub mod Sample

@@ -24,6 +24,10 @@ pairText a b = followed (decimal a) space ++ followed (decimal b) newline
 abbrev pub openingText : List ℕ
 openingText = 80 ∷ 79 ∷ 76 ∷ 32 ∷ 49 ∷ 10 ∷ []
 
+-- "A short or wrong head, admin 0 included, prints only `bad header`"
+abbrev pub badHeadText : List ℕ
+badHeadText = 98 ∷ 97 ∷ 100 ∷ 32 ∷ 104 ∷ 101 ∷ 97 ∷ 100 ∷ 101 ∷ 114 ∷ 10 ∷ []
+
 -- "per record its number, code and two numbers"
 abbrev pub lineText : ℕ → Answer → List ℕ
 lineText number a =

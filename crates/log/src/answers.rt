@@ -8,7 +8,7 @@ use rules::Transfer;
 ghost use Prim.Native.Nat.{_+_, _≤_};
 ghost use lib.ListN.{length};
 ghost use Rattle.log.specs.Written.{Wrote};
-ghost use Rattle.log.specs.Lines.{openingText, lineText, transferText, answerText, endingText, longest};
+ghost use Rattle.log.specs.Lines.{openingText, badHeadText, lineText, transferText, answerText, endingText, longest};
 
 // The room that a caller lends from `at` on: no text here is longer.
 pub const LONGEST: usize = 178;
@@ -19,6 +19,14 @@ pub fn write_opening(text: &mut [u8], at: usize) -> usize
     ensures { λ r. ⌜ r ≤ at + longest ⌝ }
 {
     put_bytes(text, at, b"POL 1\n")
+}
+
+pub fn write_bad_head(text: &mut [u8], at: usize) -> usize
+    requires { ⌜ at + longest ≤ length (now text) ⌝ }
+    ensures { λ r. ⌜ Wrote (now (text .entry)) at badHeadText (now (text .exit)) r ⌝ }
+    ensures { λ r. ⌜ r ≤ at + longest ⌝ }
+{
+    put_bytes(text, at, b"bad header\n")
 }
 
 fn write_line(text: &mut [u8], at: usize, number: u64, answer: Answer) -> usize

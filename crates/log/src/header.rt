@@ -6,6 +6,9 @@ ghost use Prim.Native.Nat.{_≤_};
 ghost use lib.ListN.{length};
 ghost use Rattle.log.specs.Opening.{headOf, named, versioned};
 
+// The bytes of a head.
+pub const HEAD: usize = 16;
+
 // A log of an admin, or none.
 pub enum Head {
     Admin(Account),
@@ -29,7 +32,7 @@ fn is_versioned(bytes: &[u8]) -> bool
 pub fn read_head(bytes: &[u8]) -> Head
     ensures { λ r. ⌜ r ≡ headOf (now (bytes .entry)) ⌝ }
 {
-    if bytes.len() != 16 {
+    if bytes.len() != HEAD {
         return Head::Bad;
     }
     if !is_named(bytes) {

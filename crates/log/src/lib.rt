@@ -7,8 +7,11 @@ mod words;
 
 pub use answers::LONGEST;
 pub use answers::write_answer;
+pub use answers::write_bad_head;
 pub use answers::write_ending;
 pub use answers::write_opening;
+pub use header::HEAD;
 pub use header::Head;
 pub use header::read_head;
+pub use records::RECORD;
 pub use records::read_record;

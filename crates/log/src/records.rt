@@ -3,6 +3,7 @@ use crate::words::word_at;
 use rules::Account;
 use rules::Call;
 use rules::ClaimCall;
+use rules::Entry;
 use rules::Invoice;
 use rules::Offer;
 use rules::Operation;
@@ -14,98 +15,102 @@ ghost use mathlib.Core.Path.{_≡_};
 ghost use mathlib.Core.Bool.{cond};
 ghost use mathlib.Core.List.{[], _∷_};
 ghost use Prim.Native.Nat.{_+_, _≤_};
+ghost use lib.Dec.{eqb};
 ghost use lib.ListN.{length};
+ghost use Rattle.rules.specs.Table.{all};
+ghost use Rattle.rules.specs.Books.{isZero};
 ghost use Rattle.rules.specs.declared.Operation.the-variants.{Unknown};
-ghost use Rattle.log.specs.Records.{fieldsAt, stakeCall, payCall, reserveCall, claimCall, rateCall, allZero, operationOf, recordOf};
+ghost use Rattle.log.specs.Records.{recordAt, stakeCall, payCall, reserveCall, claimCall, rateCall, operationOf, recordBytes, recordOf};
 
-// A record as it stands. `zeros` is the five bytes that are to be 0, `amount` a signed word.
-pub struct Fields {
-    pub operation: u64,
-    pub pool: u64,
-    pub reply: u64,
+// The bytes of a record.
+pub const RECORD: usize = 48;
+
+// A record as it stands. `zeros` is the five bytes that are to be 0.
+pub struct Record {
     pub zeros: u64,
     pub now: u64,
     pub signer: u64,
-    pub subject: u64,
-    pub other: u64,
-    pub amount: u64,
+    pub fields: Entry,
 }
 
 // The first eight bytes are read at once.
-fn fields_at(bytes: &[u8], at: usize) -> Fields
-    requires { ⌜ at + 48 ≤ length (now bytes) ⌝ }
-    ensures { λ r. ⌜ r ≡ fieldsAt (now (bytes .entry)) at ⌝ }
+fn record_at(bytes: &[u8], at: usize) -> Record
+    requires { ⌜ at + recordBytes ≤ length (now bytes) ⌝ }
+    ensures { λ r. ⌜ r ≡ recordAt (now (bytes .entry)) at ⌝ }
 {
     let first = word_at(bytes, at);
-    Fields {
-        operation: first % 0x100,
-        pool: first / 0x100 % 0x100,
-        reply: first / 0x1_0000 % 0x100,
+    Record {
         zeros: first / 0x100_0000,
         now: word_at(bytes, at + 8),
         signer: word_at(bytes, at + 16),
-        subject: word_at(bytes, at + 24),
-        other: word_at(bytes, at + 32),
-        amount: word_at(bytes, at + 40),
+        fields: Entry {
+            number: first % 0x100,
+            pool: first / 0x100 % 0x100,
+            subject: word_at(bytes, at + 24),
+            other: word_at(bytes, at + 32),
+            reply: first / 0x1_0000 % 0x100,
+            amount: whole::of_word(word_at(bytes, at + 40)),
+        },
     }
 }
 
-fn stake_call(f: Fields) -> StakeCall
-    ensures { λ r. ⌜ r ≡ stakeCall f ⌝ }
+fn stake_call(e: Entry) -> StakeCall
+    ensures { λ r. ⌜ r ≡ stakeCall e ⌝ }
 {
     StakeCall {
-        pool: f.pool,
-        staker: Account(f.subject),
-        amount: whole::of_word(f.amount),
+        pool: e.pool,
+        staker: Account(e.subject),
+        amount: e.amount,
     }
 }
 
-fn pay_call(f: Fields) -> PayCall
-    ensures { λ r. ⌜ r ≡ payCall f ⌝ }
+fn pay_call(e: Entry) -> PayCall
+    ensures { λ r. ⌜ r ≡ payCall e ⌝ }
 {
     PayCall {
-        pool: f.pool,
-        reply: f.reply,
-        invoice: Invoice(f.subject),
-        beneficiary: Account(f.other),
-        amount: whole::of_word(f.amount),
+        pool: e.pool,
+        reply: e.reply,
+        invoice: Invoice(e.subject),
+        beneficiary: Account(e.other),
+        amount: e.amount,
     }
 }
 
-fn reserve_call(f: Fields) -> ReserveCall
-    ensures { λ r. ⌜ r ≡ reserveCall f ⌝ }
+fn reserve_call(e: Entry) -> ReserveCall
+    ensures { λ r. ⌜ r ≡ reserveCall e ⌝ }
 {
     ReserveCall {
-        pool: f.pool,
-        offer: Offer(f.subject),
-        amount: whole::of_word(f.amount),
+        pool: e.pool,
+        offer: Offer(e.subject),
+        amount: e.amount,
     }
 }
 
-fn claim_call(f: Fields) -> ClaimCall
-    ensures { λ r. ⌜ r ≡ claimCall f ⌝ }
+fn claim_call(e: Entry) -> ClaimCall
+    ensures { λ r. ⌜ r ≡ claimCall e ⌝ }
 {
     ClaimCall {
-        pool: f.pool,
-        offer: Offer(f.subject),
-        lender: Account(f.other),
-        amount: whole::of_word(f.amount),
+        pool: e.pool,
+        offer: Offer(e.subject),
+        lender: Account(e.other),
+        amount: e.amount,
     }
 }
 
-fn rate_call(f: Fields) -> RateCall
-    ensures { λ r. ⌜ r ≡ rateCall f ⌝ }
+fn rate_call(e: Entry) -> RateCall
+    ensures { λ r. ⌜ r ≡ rateCall e ⌝ }
 {
     RateCall {
-        pool: f.pool,
-        rate: whole::of_word(f.amount),
+        pool: e.pool,
+        rate: e.amount,
     }
 }
 
-fn are_nil(a: u64, b: u64, c: u64, d: u64, e: u64) -> bool
-    ensures { λ r. ⌜ r ≡ allZero (a ∷ b ∷ c ∷ d ∷ e ∷ []) ⌝ }
+// Whether some fields of an entry are 0; the places of others are given as 0.
+fn are_nil(pool: u64, subject: u64, other: u64, reply: u64, amount: i64) -> bool
+    ensures { λ r. ⌜ r ≡ all (eqb pool 0 ∷ eqb subject 0 ∷ eqb other 0 ∷ eqb reply 0 ∷ isZero amount ∷ []) ⌝ }
 {
-    (a == 0) & ((b == 0) & ((c == 0) & ((d == 0) & (e == 0))))
+    (pool == 0) & (subject == 0) & (other == 0) & (reply == 0) & (amount == 0)
 }
 
 fn known_if(test: bool, operation: Operation) -> Operation
@@ -115,40 +120,37 @@ fn known_if(test: bool, operation: Operation) -> Operation
 }
 
 // The case of an operation number, with the fields that it does not use tested.
-fn operation_of(f: Fields) -> Operation
-    ensures { λ r. ⌜ r ≡ operationOf f ⌝ }
+fn operation_of(e: Entry) -> Operation
+    ensures { λ r. ⌜ r ≡ operationOf e ⌝ }
 {
-    if f.zeros != 0 {
-        return Operation::Unknown;
-    }
-    let number = f.operation;
-    let subject_only = are_nil(f.reply, f.other, 0, 0, 0);
-    let no_reply = are_nil(f.reply, 0, 0, 0, 0);
-    let amount_only = are_nil(f.reply, f.subject, f.other, 0, 0);
-    let nothing = are_nil(f.pool, f.reply, f.subject, f.other, f.amount);
-    let account_only = are_nil(f.pool, f.reply, f.other, f.amount, 0);
+    let number = e.number;
+    let subject_only = are_nil(0, 0, e.other, e.reply, 0);
+    let no_reply = are_nil(0, 0, 0, e.reply, 0);
+    let amount_only = are_nil(0, e.subject, e.other, e.reply, 0);
+    let nothing = are_nil(e.pool, e.subject, e.other, e.reply, e.amount);
+    let account_only = are_nil(e.pool, 0, e.other, e.reply, e.amount);
     match number {
-        1 => known_if(subject_only, Operation::Stake(stake_call(f))),
-        2 => known_if(subject_only, Operation::Withdraw(stake_call(f))),
-        3 => Operation::Pay(pay_call(f)),
-        4 => known_if(subject_only, Operation::Reserve(reserve_call(f))),
-        5 => known_if(no_reply, Operation::Claim(claim_call(f))),
-        6 => known_if(amount_only, Operation::Rate(rate_call(f))),
+        1 => known_if(subject_only, Operation::Stake(stake_call(e))),
+        2 => known_if(subject_only, Operation::Withdraw(stake_call(e))),
+        3 => Operation::Pay(pay_call(e)),
+        4 => known_if(subject_only, Operation::Reserve(reserve_call(e))),
+        5 => known_if(no_reply, Operation::Claim(claim_call(e))),
+        6 => known_if(amount_only, Operation::Rate(rate_call(e))),
         7 => known_if(nothing, Operation::Pause),
         8 => known_if(nothing, Operation::Unpause),
-        9 => known_if(account_only, Operation::PayoutCaller(Account(f.subject))),
+        9 => known_if(account_only, Operation::PayoutCaller(Account(e.subject))),
         _ => Operation::Unknown,
     }
 }
 
 pub fn read_record(bytes: &[u8], at: usize) -> Call
-    requires { ⌜ at + 48 ≤ length (now bytes) ⌝ }
+    requires { ⌜ at + recordBytes ≤ length (now bytes) ⌝ }
     ensures { λ r. ⌜ r ≡ recordOf (now (bytes .entry)) at ⌝ }
 {
-    let f = fields_at(bytes, at);
+    let r = record_at(bytes, at);
     Call {
-        now: f.now,
-        signer: Account(f.signer),
-        operation: operation_of(f),
+        now: r.now,
+        signer: Account(r.signer),
+        operation: known_if(r.zeros == 0, operation_of(r.fields)),
     }
 }

@@ -1,6 +1,5 @@
 -- What one row loses: its cases, and its bounds.
-use mathlib.Core.Path.{_≡_}
-use mathlib.Core.Logic.{_⊎_, inl, inr}
+use mathlib.Core.Path.{_≡_, sym, _∙_}
 use mathlib.Core.Bool.{Bool, true, false, cond}
 use Prim.Native.Nat.{ℕ, _+_, _^_, _≤_, _<_}
 use native.Mathlib.Omega.{arith}
@@ -12,9 +11,9 @@ use Rattle.whole.specs.Whole.{up, dn, minZ}
 use Rattle.whole.specs.Shares.{share}
 use Rattle.whole.proofs.Linear.{one, abs, dif, lesser-is}
 use Rattle.whole.proofs.Shares.{share-le}
-use Rattle.whole.proofs.Words.{Low, High, halves}
 use Rattle.rules.specs.Books.{isZero}
-use Rattle.losses.specs.Loss.{cutOf}
+use Rattle.books.proofs.Signs.{zero-same}
+use Rattle.losses.specs.inner.Settling.{loweredBy}
 
 -- ---- a word is 0 exactly where its number is
 
@@ -22,25 +21,21 @@ pub word-zero : (w : ℕ) → w ≡ 0 → isZero (toZ w64 w) ≡ true
 word-zero w e = rw e
 
 pub word-some : (w : ℕ) → w < 2 ^ 64 → (w ≡ 0 → ⊥) → isZero (toZ w64 w) ≡ false
-word-some w h n = ne-eqb _ _ (go (halves w h))
-  where
-    go : Low w ⊎ High w → natAbs (toZ w64 w) ≡ 0 → ⊥
-    go (inl l) e = n (omega (arith, abs (toZ w64 w)))
-    go (inr l) e = omega (arith, abs (toZ w64 w))
+word-some w h n = sym (zero-same w h) ∙ ne-eqb w 0 n
 
 -- ---- the cases
 
 module _ (loss balance : ℕ) (rest s : ℤ) where
-  pub cut-zero : (last : Bool) → isZero s ≡ true → cutOf loss balance last rest s ≡ pos 0
-  unfolding cutOf
+  pub cut-zero : (last : Bool) → isZero s ≡ true → loweredBy loss balance last rest s ≡ pos 0
+  unfolding loweredBy
   cut-zero last z = rw z
 
-  pub cut-last : isZero s ≡ false → cutOf loss balance true rest s ≡ rest
-  unfolding cutOf
+  pub cut-last : isZero s ≡ false → loweredBy loss balance true rest s ≡ rest
+  unfolding loweredBy
   cut-last z = rw z
 
-  pub cut-mid : isZero s ≡ false → cutOf loss balance false rest s ≡ minZ (share s loss balance) rest
-  unfolding cutOf
+  pub cut-mid : isZero s ≡ false → loweredBy loss balance false rest s ≡ minZ (share s loss balance) rest
+  unfolding loweredBy
   cut-mid z = rw z
 
 -- ---- the bounds: what is left of the loss is not below 0, and grows by at most the size of a stake below 0
@@ -52,8 +47,8 @@ pub record Taken (rest s d : ℤ) : Type 0 where
   pub most : up (rest -ℤ d) ≤ up rest + dn s
 
 module _ (loss balance : ℕ) (h : loss ≤ balance) (rest s : ℤ) (p : dn rest ≡ 0) where
-  pub cut-taken : (last : Bool) → Taken rest s (cutOf loss balance last rest s)
-  unfolding cutOf
+  pub cut-taken : (last : Bool) → Taken rest s (loweredBy loss balance last rest s)
+  unfolding loweredBy
   cut-taken last = go (isZero s) last
     where
       go : (z e : Bool) → Taken rest s (cond z (pos 0) (cond e rest (minZ (share s loss balance) rest)))
@@ -64,8 +59,8 @@ module _ (loss balance : ℕ) (h : loss ≤ balance) (rest s : ℤ) (p : dn rest
           omega (arith, lesser-is (share s loss balance) rest, share-le s loss balance h, one s, one m, dif rest m, one (rest -ℤ m))
 
   -- a sharer that is not the last is left with no more than it had, of the same sign
-  pub cut-shrinks : natAbs (s -ℤ cutOf loss balance false rest s) ≤ natAbs s
-  unfolding cutOf
+  pub cut-shrinks : natAbs (s -ℤ loweredBy loss balance false rest s) ≤ natAbs s
+  unfolding loweredBy
   cut-shrinks = go (isZero s)
     where
       go : (z : Bool) → natAbs (s -ℤ cond z (pos 0) (minZ (share s loss balance) rest)) ≤ natAbs s

@@ -2,7 +2,7 @@
 use mathlib.Core.Path.{_≡_, refl, sym, ap, _∙_}
 use mathlib.Core.Bool.{Bool, true, false, not, cond, _&&_}
 use mathlib.Core.List.{List, [], _∷_, _++_, append-nil}
-use Prim.Native.Nat.{ℕ, zero, suc, _+_, _-_, _*_, _≤_, _<_}
+use Prim.Native.Nat.{ℕ, zero, suc, _+_, _-_, _≤_, _<_}
 use native.Mathlib.Omega.{arith}
 use borrow.Author.Tests.{eq-eqb, ne-eqb, eqb-true, le-leb, lt-leb}
 use lib.Dec.{eqb, leb}
@@ -10,20 +10,20 @@ use lib.IntN.{ℤ, pos, natAbs, _-ℤ_}
 use lib.Signed.{ltZ}
 use Rattle.whole.specs.Whole.{up, dn}
 use Rattle.whole.proofs.Linear.{abs, one, dif, within-abs, lt-true, lt-false}
-use Rattle.rows.specs.Rows.{word}
 use Rattle.rules.specs.Limits.{limit}
 use Rattle.rules.specs.Table.{keep, each}
 use Rattle.rules.specs.Books.{StakeRow, isZero, stakeGone}
 use Rattle.rules.specs.Sharing.{cutRow, stakesFit}
 use Rattle.books.specs.Tables.{rowsFrom}
 use Rattle.books.specs.Words.{stakeRowAt}
-use Rattle.losses.specs.Pool.{Held, LastSharer, PoolRows, stakeOf}
-use Rattle.losses.specs.Loss.{after, cutOf, least, leftLast, restAfter}
-use Rattle.losses.proofs.Table.{Fit, rows, held-ok}
-use Rattle.losses.proofs.Cuts.{word-some, cut-last, cut-taken, cut-shrinks}
-use Rattle.losses.proofs.Walk.{onward-none, sharers-none}
+use Rattle.books.specs.inner.Held.{Fit}
+use Rattle.books.proofs.StakeRows.{held-ok}
+use Rattle.losses.specs.inner.Settling.{Ready, loweredBy, least, leftLast, restAfter, stakeAtRow}
+use Rattle.losses.specs.declared.Loss.{Loss}
+use Rattle.losses.proofs.Cuts.{cut-last, cut-taken, cut-shrinks}
+use Rattle.losses.proofs.Walk.{rows, onward-none, sharers-none}
 use Rattle.losses.proofs.Rest.{rest-bound}
-use Rattle.losses.proofs.Turns.{todo, turn, last-none, after-is}
+use Rattle.losses.proofs.Turns.{afterLoss, todo, turn, last-none, last-some, after-is}
 
 abbrev fitOne : ℤ → Bool
 fitOne z = leb (natAbs z) limit
@@ -41,12 +41,12 @@ keep-fit r l = go (isZero (r .stake)) (eqb (r .accrual) 0) refl
     go false v e = refl
 
 -- rows in order fit
-rows-fit : (s : List ℕ) (i n : ℕ) (l : List StakeRow) → ((j : ℕ) → i ≤ j → j < i + n → natAbs (stakeOf s j) ≤ limit) → stakesFit (rows s i n ++ l) ≡ stakesFit l
+rows-fit : (s : List ℕ) (i n : ℕ) (l : List StakeRow) → ((j : ℕ) → i ≤ j → j < i + n → natAbs (stakeAtRow s j) ≤ limit) → stakesFit (rows s i n ++ l) ≡ stakesFit l
 unfolding stakesFit each rowsFrom
 rows-fit s i zero l h = refl
-rows-fit s i (suc n) l h = rw (le-leb (natAbs (stakeOf s i)) limit (h i (omega arith) (omega arith))) (rows-fit s (suc i) n l (λ j p q. h j (omega arith) (omega arith)))
+rows-fit s i (suc n) l h = rw (le-leb (natAbs (stakeAtRow s i)) limit (h i (omega arith) (omega arith))) (rows-fit s (suc i) n l (λ j p q. h j (omega arith) (omega arith)))
 
-all-fit : (s : List ℕ) (i n : ℕ) → ((j : ℕ) → i ≤ j → j < i + n → natAbs (stakeOf s j) ≤ limit) → stakesFit (rows s i n) ≡ true
+all-fit : (s : List ℕ) (i n : ℕ) → ((j : ℕ) → i ≤ j → j < i + n → natAbs (stakeAtRow s j) ≤ limit) → stakesFit (rows s i n) ≡ true
 unfolding stakesFit each
 all-fit s i n h = ap stakesFit (sym (append-nil (rows s i n))) ∙ rows-fit s i n [] h
 
@@ -64,54 +64,56 @@ itself false = refl
 
 -- ---- the pool's rows
 
-module _ {s : List ℕ} {used pool from to last : ℕ} (loss balance : ℕ) (held : Held s used) (span : PoolRows s used pool from to) (ends : LastSharer s from to last) (fit : Fit s) (h : loss ≤ balance) where
-  size : (j : ℕ) → j < used → natAbs (stakeOf s j) ≤ limit
-  size j q = held-ok held j q .size
+module _ {s : List ℕ} {used : ℕ} {l : Loss} (h : Ready s used l) (fit : Fit s) where
+  size : (j : ℕ) → j < used → natAbs (stakeAtRow s j) ≤ limit
+  size j q = held-ok s used (h .held) j q .size
 
-  todo-at : ℕ → ℤ → List StakeRow
-  todo-at i rest = todo loss balance held span ends fit i rest
+  -- what row i loses, the last or not, and what is then left to do
+  abbrev cut : Bool → ℕ → ℤ → ℤ
+  cut b i rest = loweredBy (l .amount) (l .balance) b rest (stakeAtRow s i)
+
+  abbrev more : Bool → ℕ → ℤ → List StakeRow
+  more b i rest = keep stakeGone (cutRow (stakeRowAt s i) (cut b i rest)) (todo s used l (i + 1) (rest -ℤ cut b i rest))
 
   -- one that is not the last keeps within its limit
-  fit-mid : (i : ℕ) (rest : ℤ) → from ≤ i → i < last → dn rest ≡ 0 → stakesFit (todo-at i rest) ≡ stakesFit (todo-at (i + 1) (rest -ℤ cutOf loss balance false rest (stakeOf s i)))
-  unfolding todo-at
+  fit-mid : (i : ℕ) (rest : ℤ) → l .from ≤ i → i < l .last → dn rest ≡ 0 → stakesFit (todo s used l i rest) ≡ stakesFit (todo s used l (i + 1) (rest -ℤ cut false i rest))
   fit-mid i rest p q n =
-      let e : eqb i last ≡ false = ne-eqb i last (λ z. omega arith) in
-      let d = cutOf loss balance false rest (stakeOf s i) in
-      ap stakesFit (turn loss balance held span ends fit i rest p (omega (arith, ends .before)))
-      ∙ ap (λ (b : Bool). stakesFit (keep stakeGone (cutRow (stakeRowAt s i) (cutOf loss balance b rest (stakeOf s i))) (todo-at (i + 1) (rest -ℤ cutOf loss balance b rest (stakeOf s i))))) e
-      ∙ keep-fit (cutRow (stakeRowAt s i) d) (todo-at (i + 1) (rest -ℤ d))
-      ∙ ap (λ (b : Bool). cond b (stakesFit (todo-at (i + 1) (rest -ℤ d))) false) (le-leb (natAbs (stakeOf s i -ℤ d)) limit (omega (arith, cut-shrinks loss balance h rest (stakeOf s i) n, size i (omega (arith, ends .before, span .most)))))
+      ap stakesFit (turn h fit i rest p (omega (arith, h .ends .before)))
+      ∙ ap (λ (b : Bool). stakesFit (more b i rest)) (ne-eqb i (l .last) (λ z. omega arith))
+      ∙ keep-fit (cutRow (stakeRowAt s i) (cut false i rest)) (todo s used l (i + 1) (rest -ℤ cut false i rest))
+      ∙ ap (λ (b : Bool). cond b (stakesFit (todo s used l (i + 1) (rest -ℤ cut false i rest))) false)
+      (le-leb (natAbs (stakeAtRow s i -ℤ cut false i rest)) limit (omega (arith, cut-shrinks (l .amount) (l .balance) (h .loss-is .most) rest (stakeAtRow s i) n, size i (omega (arith, h .ends .before, h .span .most)))))
 
-  fit-walk : (n i : ℕ) (rest : ℤ) → i + n ≡ last → from ≤ i → dn rest ≡ 0 → stakesFit (todo-at i rest) ≡ stakesFit (todo-at last (restAfter s loss balance rest i n))
+  fit-walk : (n i : ℕ) (rest : ℤ) → i + n ≡ l .last → l .from ≤ i → dn rest ≡ 0 → stakesFit (todo s used l i rest) ≡ stakesFit (todo s used l (l .last) (restAfter s (l .amount) (l .balance) rest i n))
   unfolding restAfter
-  fit-walk zero i rest e p d = let f : i ≡ last = omega arith in ap (λ (k : ℕ). stakesFit (todo-at k rest)) f
+  fit-walk zero i rest e p d = let f : i ≡ l .last = omega arith in ap (λ (k : ℕ). stakesFit (todo s used l k rest)) f
   fit-walk (suc n) i rest e p d =
       let f : i + 1 ≡ suc i = omega arith in
       fit-mid i rest p (omega arith) d
-      ∙ ap (λ (k : ℕ). stakesFit (todo-at k (rest -ℤ cutOf loss balance false rest (stakeOf s i)))) f
-      ∙ fit-walk n (suc i) (rest -ℤ cutOf loss balance false rest (stakeOf s i)) (omega arith) (omega arith) (cut-taken loss balance h rest (stakeOf s i) d false .nonneg)
+      ∙ ap (λ (k : ℕ). stakesFit (todo s used l k (rest -ℤ cut false i rest))) f
+      ∙ fit-walk n (suc i) (rest -ℤ cut false i rest) (omega arith) (omega arith) (cut-taken (l .amount) (l .balance) (h .loss-is .most) rest (stakeAtRow s i) d false .nonneg)
 
   -- the last is left with its stake less the rest
-  fit-last : (rest : ℤ) → dn rest ≡ 0 → stakesFit (todo-at last rest) ≡ not (ltZ (stakeOf s last -ℤ rest) least)
-  unfolding todo-at
+  fit-last : (rest : ℤ) → dn rest ≡ 0 → stakesFit (todo s used l (l .last) rest) ≡ not (ltZ (stakeAtRow s (l .last) -ℤ rest) least)
   fit-last rest n =
-      let z : isZero (stakeOf s last) ≡ false = word-some (word s 5 last 2) (fit (last * 5 + 2)) (ends .some) in
-      let k : ℕ = used - (last + 1) in
-      let none = sharers-none pool s (last + 1) k (last-none loss balance held span ends fit last (omega arith)) in
-      let w = size last (omega (arith, ends .before, span .most)) in
-      ap stakesFit (turn loss balance held span ends fit last rest (ends .inside) (ends .before))
-      ∙ ap (λ (b : Bool). stakesFit (keep stakeGone (cutRow (stakeRowAt s last) (cutOf loss balance b rest (stakeOf s last))) (todo-at (last + 1) (rest -ℤ cutOf loss balance b rest (stakeOf s last))))) (eq-eqb last last refl)
-      ∙ ap (λ (d : ℤ). stakesFit (keep stakeGone (cutRow (stakeRowAt s last) d) (todo-at (last + 1) (rest -ℤ d)))) (cut-last loss balance rest (stakeOf s last) z)
-      ∙ keep-fit (cutRow (stakeRowAt s last) rest) (todo-at (last + 1) (rest -ℤ rest))
-      ∙ ap (λ (b : Bool). cond (fitOne (stakeOf s last -ℤ rest)) b false) (ap stakesFit (onward-none pool loss balance (rest -ℤ rest) (rows s (last + 1) k) none) ∙ all-fit s (last + 1) k (λ j p q. size j (omega arith)))
-      ∙ itself (fitOne (stakeOf s last -ℤ rest))
-      ∙ fit-below (stakeOf s last -ℤ rest) (omega (arith, w, n, abs (stakeOf s last), one (stakeOf s last), dif (stakeOf s last) rest, one (stakeOf s last -ℤ rest)))
+      let i : ℕ = l .last in
+      let z = stakeAtRow s i in
+      let k : ℕ = used - (i + 1) in
+      let none = sharers-none (l .pool) s (i + 1) k (last-none h i (omega arith)) in
+      let w = size i (omega (arith, h .ends .before, h .span .most)) in
+      ap stakesFit (turn h fit i rest (h .ends .inside) (h .ends .before))
+      ∙ ap (λ (b : Bool). stakesFit (more b i rest)) (eq-eqb i i refl)
+      ∙ ap (λ (d : ℤ). stakesFit (keep stakeGone (cutRow (stakeRowAt s i) d) (todo s used l (i + 1) (rest -ℤ d)))) (cut-last (l .amount) (l .balance) rest z (last-some h fit))
+      ∙ keep-fit (cutRow (stakeRowAt s i) rest) (todo s used l (i + 1) (rest -ℤ rest))
+      ∙ ap (λ (b : Bool). cond (fitOne (z -ℤ rest)) b false) (ap stakesFit (onward-none (l .pool) (l .amount) (l .balance) (rest -ℤ rest) (rows s (i + 1) k) none) ∙ all-fit s (i + 1) k (λ j p q. size j (omega arith)))
+      ∙ itself (fitOne (z -ℤ rest))
+      ∙ fit-below (z -ℤ rest) (omega (arith, w, n, abs z, one z, dif z rest, one (z -ℤ rest)))
 
   -- what `over_limit` tests is what the rules ask
-  pub fits-is : stakesFit (after s used pool loss balance) ≡ not (ltZ (leftLast s from last loss balance) least)
-  unfolding todo-at
+  pub fits-is : stakesFit (afterLoss s l) ≡ not (ltZ (leftLast s (l .from) (l .last) (l .amount) (l .balance)) least)
   fits-is =
-      ap stakesFit (after-is loss balance held span ends fit)
-      ∙ rows-fit s 0 from (todo-at from (pos loss)) (λ j p q. size j (omega (arith, span .order, span .most)))
-      ∙ fit-walk (last - from) from (pos loss) (omega (arith, ends .inside)) (omega arith) refl
-      ∙ fit-last (restAfter s loss balance (pos loss) from (last - from)) (rest-bound s loss balance h (pos loss) from (last - from) refl (λ k p q. within-abs (size k (omega (arith, p, q, ends .inside, ends .before, span .most)))) .1)
+      let n : ℕ = l .last - l .from in
+      ap stakesFit (after-is h)
+      ∙ rows-fit s 0 (l .from) (todo s used l (l .from) (pos (l .amount))) (λ j p q. size j (omega (arith, h .span .order, h .span .most)))
+      ∙ fit-walk n (l .from) (pos (l .amount)) (omega (arith, h .ends .inside)) (omega arith) refl
+      ∙ fit-last (restAfter s (l .amount) (l .balance) (pos (l .amount)) (l .from) n) (rest-bound s (l .amount) (l .balance) (h .loss-is .most) (pos (l .amount)) (l .from) n refl (λ k p q. within-abs (size k (omega (arith, p, q, h .ends .inside, h .ends .before, h .span .most)))) .1)

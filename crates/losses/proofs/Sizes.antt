@@ -10,34 +10,44 @@ use Rattle.whole.proofs.Linear.{within-abs}
 use Rattle.rules.specs.Limits.{limit, mostStakes}
 use Rattle.rules.specs.Books.{StakeRow, stakeKey}
 use Rattle.rules.specs.Formed.{stakeIn}
-use Rattle.rules.proofs.Facts.{StakeOk}
+use Rattle.rules.specs.inner.Facts.{StakeOk}
 use Rattle.rules.proofs.Tests.{cases}
 use Rattle.rules.proofs.Bounds.{sum-most}
-use Rattle.losses.specs.Pool.{Held, LastSharer, PoolRows, stakeOf}
-use Rattle.losses.specs.Loss.{Part, Shareable, Sharers}
-use Rattle.losses.proofs.Table.{rows, rows-length, held-ok}
+use Rattle.books.specs.Layout.{stakeWidth}
+use Rattle.books.specs.Tables.{usedOf, tableOf}
+use Rattle.books.specs.Words.{stakeRowAt}
+use Rattle.books.proofs.Lists.{rows-length}
+use Rattle.books.proofs.StakeRows.{held-ok}
+use Rattle.losses.specs.inner.Settling.{Divisible, Ready, Sharers, stakeAtRow}
+use Rattle.losses.specs.declared.Loss.{Loss}
 
-module _ {s : List ℕ} {used pool loss balance : ℕ} (held : Held s used) (sh : Shareable pool loss balance (rows s 0 used)) where
-  pub stake-small : (k : ℕ) → k < used → Within limit (stakeOf s k)
-  stake-small k h = within-abs (held-ok held k h .size)
+module _ {s : List ℕ} {used : ℕ} {l : Loss} (h : Ready s used l) where
+  pub few-rows : used ≤ mostStakes
+  few-rows = omega (arith, h .loss-is .few, rows-length stakeRowAt s 0 (usedOf stakeWidth s), h .held .table .used)
 
-  in-pool : (r : StakeRow) → StakeOk r → Within limit (stakeIn pool r)
-  in-pool r ok = cases (eqb (r .pool) pool) (r .stake) (pos 0) (Within limit) (λ e. within-abs (ok .size)) (λ e. record { above = omega arith; below = omega arith })
+  pub stake-small : (k : ℕ) → k < used → Within limit (stakeAtRow s k)
+  stake-small k q = within-abs (held-ok s used (h .held) k q .size)
 
-  balance-large : balance ≤ mostStakes * limit
-  balance-large = let m = sum-most stakeKey StakeOk (stakeIn pool) limit in-pool 0 (rows s 0 used) (held .rows) in omega (arith, ap up (sh .sum), m .above, rows-length s 0 used, held .few)
+  in-pool : (r : StakeRow) → StakeOk r → Within limit (stakeIn (l .pool) r)
+  in-pool r ok = cases (eqb (r .pool) (l .pool)) (r .stake) (pos 0) (Within limit) (λ e. within-abs (ok .size)) (λ e. record { above = omega arith; below = omega arith })
 
-  pub part-of : {z : ℤ} → Within limit z → Part z loss balance
-  part-of h = record { small = h; some = omega (arith, sh .some, sh .most); most = sh .most; large = balance-large }
+  balance-large : l .balance ≤ mostStakes * limit
+  balance-large = let m = sum-most stakeKey StakeOk (stakeIn (l .pool)) limit in-pool 0 (tableOf stakeRowAt stakeWidth s) (h .held .rows) in omega (arith, ap up (h .loss-is .sum), m .above, h .loss-is .few)
 
-  pub sharers-of : {from to last : ℕ} → PoolRows s used pool from to → LastSharer s from to last → Sharers s from last loss balance
-  sharers-of span ends = record {
-    order = ends .inside;
-    few = omega (arith, ends .before, span .most, held .few);
-    room = omega (arith, ends .before, span .most, held .fits);
-    small = λ k p q. stake-small k (omega (arith, q, ends .before, span .most));
-    some = omega (arith, sh .some, sh .most);
-    most = sh .most;
-    large = balance-large;
-    within = sh .within;
-  }
+  pub part-of : {z : ℤ} → Within limit z → Divisible z (l .amount) (l .balance)
+  part-of w = record { small = w; some = omega (arith, h .loss-is .some, h .loss-is .most); most = h .loss-is .most; large = balance-large }
+
+  pub sharers-of : Sharers s (l .from) (l .last) (l .amount) (l .balance)
+  sharers-of =
+      let span = h .span in
+      let ends = h .ends in
+      record {
+        order = ends .inside;
+        few = omega (arith, ends .before, span .most, few-rows);
+        room = omega (arith, ends .before, span .most, h .held .table .fits);
+        small = λ k p q. stake-small k (omega (arith, q, ends .before, span .most));
+        some = omega (arith, h .loss-is .some, h .loss-is .most);
+        most = h .loss-is .most;
+        large = balance-large;
+        within = h .loss-is .within;
+      }

@@ -16,13 +16,16 @@ use Rattle.rows.proofs.Order.{le-cases}
 use Rattle.rules.specs.Table.{keep}
 use Rattle.rules.specs.Books.{StakeRow, isZero, stakeGone}
 use Rattle.rules.specs.Sharing.{sharer, sharers, cutOf, reductions, cutRow, lowered}
-use Rattle.rules.proofs.Facts.{StakeOk}
+use Rattle.rules.specs.inner.Facts.{StakeOk}
 use Rattle.rules.proofs.Tests.{and-left, and-right}
 use Rattle.rules.proofs.Losses.{sharers-in, sharers-out, lowered-in, lowered-out}
 use Rattle.books.specs.Tables.{rowsFrom}
 use Rattle.books.specs.Words.{stakeRowAt}
-use Rattle.losses.proofs.Table.{rows}
 
+abbrev pub rows : List ℕ → ℕ → ℕ → List StakeRow
+rows s i n = rowsFrom stakeRowAt s i n
+
+-- the rows l, lowered by `rest`
 abbrev pub onward : ℕ → ℕ → ℕ → ℤ → List StakeRow → List StakeRow
 onward pool loss balance rest l = lowered pool l (reductions loss balance rest (sharers pool l))
 

@@ -1,4 +1,3 @@
--- The definitions that the contracts of this floor cite.
-pub mod Pool
+-- What sharing a loss asks, answers and leaves (Loss), and the contracts of private functions (inner).
 pub mod Loss
-pub mod Rows
+pub mod inner

@@ -2,30 +2,29 @@
 // include/pasumorip.h says it for C.
 mod words;
 
+use crate::words::ANSWER;
+use crate::words::NUMBERS;
+use crate::words::PROGRESS;
 use crate::words::tell_answer;
 use crate::words::tell_progress;
 use crate::words::tell_two;
-use history::RECORD;
-use log::Head;
+use log::RECORD;
 use rules::Account;
+use rules::codes;
+use rules::refuse;
 ghost use mathlib.Core.Path.{_≡_};
 ghost use Rattle.rules.specs.Terms.{assessRisk};
-ghost use Rattle.books.specs.Words.{tables, booksOf};
+ghost use Rattle.rules.specs.Calls.{accountNo};
+ghost use Rattle.books.specs.Words.{tables};
 ghost use Rattle.books.specs.Fresh.{renewed, freshWords};
-ghost use Rattle.pasumorip.specs.Face.{called, applied, told, questioned, opened, ran, replayedFrom};
+ghost use Rattle.history.specs.Beginning.{opened};
+ghost use Rattle.pasumorip.specs.Face.{answered, applied, queried, questioned, resumed, replayedFrom};
 
-const MALFORMED: u8 = 1;
+const MALFORMED: u8 = codes::MALFORMED as u8;
 
-const BAD_TABLES: u8 = 2;
+const BAD_TABLES: u8 = codes::BAD_TABLES as u8;
 
-// The words of a call's and of a query's answer.
-const ANSWER: usize = 9;
-
-const TOLD: usize = 3;
-
-// The words of a replay's progress, and the most records that may have been run before.
-const PROGRESS: usize = 3;
-
+// The most records that may have been run before a replay.
 const MOST_RECORDS: u64 = 9_223_372_036_854_775_808;
 
 // A fresh set of tables, with the given admin.
@@ -36,7 +35,7 @@ pub extern "C" fn pasumorip_fresh(
     books: &mut [u64],
     admin: u64,
 ) -> u8
-    ensures { λ r. ⌜ renewed r (tables (now (stakes .exit)) (now (offers .exit)) (now (books .exit))) ≡ freshWords (tables (now (stakes .entry)) (now (offers .entry)) (now (books .entry))) admin ⌝ }
+    ensures { λ r. ⌜ renewed r (tables (now (stakes .exit)) (now (offers .exit)) (now (books .exit))) ≡ freshWords (tables (now (stakes .entry)) (now (offers .entry)) (now (books .entry))) (accountNo admin) ⌝ }
 {
     books::fresh(stakes, offers, books, Account(admin)) as u8
 }
@@ -51,13 +50,10 @@ pub extern "C" fn pasumorip_open(
 ) -> u8
     ensures { λ r. ⌜ renewed r (tables (now (stakes .exit)) (now (offers .exit)) (now (books .exit))) ≡ opened (tables (now (stakes .entry)) (now (offers .entry)) (now (books .entry))) (now (head .entry)) ⌝ }
 {
-    match log::read_head(head) {
-        Head::Admin(admin) => books::fresh(stakes, offers, books, admin) as u8,
-        Head::Bad => MALFORMED,
-    }
+    history::begin(stakes, offers, books, head) as u8
 }
 
-// A call, as a log's record, on any tables.
+// A call, as a log's record, on any tables. Bytes that are no record are refused as any malformed call is: the answer says so.
 #[no_mangle]
 pub extern "C" fn pasumorip_apply(
     stakes: &mut [u64],
@@ -66,10 +62,13 @@ pub extern "C" fn pasumorip_apply(
     bytes: &[u8],
     answer: &mut [u64],
 ) -> u8
-    ensures { λ r. ⌜ called r (tables (now (stakes .exit)) (now (offers .exit)) (now (books .exit))) (now (answer .exit)) ≡ applied (tables (now (stakes .entry)) (now (offers .entry)) (now (books .entry))) (now (bytes .entry)) (now (answer .entry)) ⌝ }
+    ensures { λ r. ⌜ answered r (tables (now (stakes .exit)) (now (offers .exit)) (now (books .exit))) (now (answer .exit)) ≡ applied (tables (now (stakes .entry)) (now (offers .entry)) (now (books .entry))) (now (bytes .entry)) (now (answer .entry)) ⌝ }
 {
-    if (bytes.len() != RECORD) | (answer.len() != ANSWER) {
+    if answer.len() != ANSWER {
         return MALFORMED;
+    }
+    if bytes.len() != RECORD {
+        return tell_answer(answer, refuse(codes::MALFORMED));
     }
     let a = engine::apply(stakes, offers, books, log::read_record(bytes, 0));
     tell_answer(answer, a)
@@ -87,9 +86,9 @@ pub extern "C" fn pasumorip_query(
     time: u64,
     answer: &mut [u64],
 ) -> u8
-    ensures { λ r. ⌜ told r (now (answer .exit)) ≡ questioned (tables (now (stakes .entry)) (now (offers .entry)) (now (books .entry))) kind pool number time (now (answer .entry)) ⌝ }
+    ensures { λ r. ⌜ queried r (now (answer .exit)) ≡ questioned (tables (now (stakes .entry)) (now (offers .entry)) (now (books .entry))) kind pool number time (now (answer .entry)) ⌝ }
 {
-    if answer.len() != TOLD {
+    if answer.len() != NUMBERS {
         return MALFORMED;
     }
     let a = queries::ask(stakes, offers, books, kind, pool, number, time);
@@ -106,7 +105,7 @@ pub extern "C" fn pasumorip_replay(
     text: &mut [u8],
     progress: &mut [u64],
 ) -> u8
-    ensures { λ r. ⌜ ran r (tables (now (stakes .exit)) (now (offers .exit)) (now (books .exit))) (now (text .exit)) (now (progress .exit)) ≡ replayedFrom (tables (now (stakes .entry)) (now (offers .entry)) (now (books .entry))) (now (records .entry)) (now (text .entry)) (now (progress .entry)) ⌝ }
+    ensures { λ r. ⌜ resumed r (tables (now (stakes .exit)) (now (offers .exit)) (now (books .exit))) (now (text .exit)) (now (progress .exit)) ≡ replayedFrom (tables (now (stakes .entry)) (now (offers .entry)) (now (books .entry))) (now (records .entry)) (now (text .entry)) (now (progress .entry)) ⌝ }
 {
     if progress.len() != PROGRESS {
         return MALFORMED;

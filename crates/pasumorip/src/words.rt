@@ -6,17 +6,24 @@ ghost use mathlib.Core.Path.{_≡_};
 ghost use Prim.Native.Nat.{_≤_};
 ghost use mathlib.Core.List.{[], _∷_};
 ghost use lib.ListN.{length};
-ghost use Rattle.pasumorip.specs.Face.{answerWords, toldWords, progressWords};
+ghost use Rattle.pasumorip.specs.Face.{answerWords, numberWords, progressWords, answerLength, numbersLength, progressLength};
+
+// The words of a call's and of a query's answer, and of a replay's progress.
+pub const ANSWER: usize = 9;
+
+pub const NUMBERS: usize = 3;
+
+pub const PROGRESS: usize = 3;
 
 // A query's: code, two numbers.
-fn told_words(a: Answer) -> [u64; 3]
-    ensures { λ r. ⌜ r ≡ toldWords a ⌝ }
+fn number_words(a: Answer) -> [u64; NUMBERS]
+    ensures { λ r. ⌜ r ≡ numberWords a ⌝ }
 {
     [a.code, whole::to_word(a.first), whole::to_word(a.second)]
 }
 
 // A call's: code, two numbers, two transfers.
-fn answer_words(code: u64, first: u64, second: u64, one: Transfer, two: Transfer) -> [u64; 9]
+fn answer_words(code: u64, first: u64, second: u64, one: Transfer, two: Transfer) -> [u64; ANSWER]
     ensures { λ r. ⌜ r ≡ (code ∷ first ∷ second ∷ one .kind ∷ one .account .0 ∷ one .amount ∷ two .kind ∷ two .account .0 ∷ two .amount ∷ []) ⌝ }
 {
     [
@@ -33,7 +40,7 @@ fn answer_words(code: u64, first: u64, second: u64, one: Transfer, two: Transfer
 }
 
 pub fn tell_answer(words: &mut [u64], a: Answer) -> u8
-    requires { ⌜ length (now words) ≡ 9 ⌝ }
+    requires { ⌜ length (now words) ≡ answerLength ⌝ }
     requires { ⌜ a .code ≤ 11 ⌝ }
     ensures { λ r. ⌜ r ≡ a .code ⌝ }
     ensures { λ r. ⌜ now (words .exit) ≡ answerWords a ⌝ }
@@ -42,27 +49,27 @@ pub fn tell_answer(words: &mut [u64], a: Answer) -> u8
     let two = a.two;
     let first = whole::to_word(a.first);
     let second = whole::to_word(a.second);
-    let told = answer_words(a.code, first, second, one, two);
-    rows::write_row(words, 9, 0, &told);
+    let row = answer_words(a.code, first, second, one, two);
+    rows::write_row(words, ANSWER, 0, &row);
     a.code as u8
 }
 
 pub fn tell_two(words: &mut [u64], a: Answer) -> u8
-    requires { ⌜ length (now words) ≡ 3 ⌝ }
+    requires { ⌜ length (now words) ≡ numbersLength ⌝ }
     requires { ⌜ a .code ≤ 11 ⌝ }
     ensures { λ r. ⌜ r ≡ a .code ⌝ }
-    ensures { λ r. ⌜ now (words .exit) ≡ toldWords a ⌝ }
+    ensures { λ r. ⌜ now (words .exit) ≡ numberWords a ⌝ }
 {
-    let told = told_words(a);
-    rows::write_row(words, 3, 0, &told);
+    let row = number_words(a);
+    rows::write_row(words, NUMBERS, 0, &row);
     a.code as u8
 }
 
 // How far a replay got.
 pub fn tell_progress(words: &mut [u64], done: Progress)
-    requires { ⌜ length (now words) ≡ 3 ⌝ }
+    requires { ⌜ length (now words) ≡ progressLength ⌝ }
     ensures { λ _. ⌜ now (words .exit) ≡ progressWords done ⌝ }
 {
-    let told = [done.number, done.taken as u64, done.written as u64];
-    rows::write_row(words, 3, 0, &told);
+    let row = [done.number, done.taken as u64, done.printed as u64];
+    rows::write_row(words, PROGRESS, 0, &row);
 }

@@ -1,157 +1,136 @@
--- Reserve: which rung of its plan each answer is, on good tables.
-use mathlib.Core.Path.{_≡_, refl, sym, ap, ap₂, _∙_, subst⁻¹}
-use mathlib.Core.Bool.{Bool, true, false, not, cond, _&&_}
-use mathlib.Core.List.{List, [], _∷_}
-use Prim.Native.Nat.{ℕ, _+_, _≤_, _<_}
+-- Reserve: the plan of what is settled is the rules', a settled grant can be written, and the code's figures are the rules'.
+use mathlib.Core.Path.{_≡_, refl, sym, ap, ap₂, _∙_, subst}
+use mathlib.Core.Bool.{Bool, true, false, cond, _&&_}
+use Prim.Native.Nat.{ℕ, _+_, _^_, _≤_, _<_}
 use native.Mathlib.Omega.{arith}
-use borrow.Author.Tests.{eq-eqb, ne-eqb, lt-ltb, le-ltb, leb-false}
+use borrow.Author.Tests.{ne-eqb, eqb-false, ltb-false}
 use lib.Dec.{ltb, leb, eqb}
-use lib.IntN.{ℤ, pos, _-ℤ_}
-use lib.ListN.{length, getD}
-use Rattle.whole.specs.Whole.{up, minZ, Within}
-use Rattle.rules.specs.Limits.{limit, flat}
-use Rattle.rules.specs.Terms.{capped}
-use Rattle.rules.specs.Table.{keyOf, find, has, put}
-use Rattle.rules.specs.Books.{Books, OfferRow, offerKey, offerGone, offerRow, offerAt, balanceOf, unpaidOf}
+use lib.IntN.{pos}
+use lib.ListN.{length}
+use Rattle.whole.specs.Whole.{up}
+use Rattle.rules.specs.Limits.{limit}
+use Rattle.rules.specs.Table.{keyOf}
+use Rattle.rules.specs.Books.{Books, OfferRow, offerKey, offerGone, noOffer, offerAt, unpaidOf}
 use Rattle.rules.specs.declared.Account.{Account}
 use Rattle.rules.specs.declared.ReserveCall.{ReserveCall}
 use Rattle.rules.specs.Answers.{Plan, refused, answers, _refuses_else_, OverLimit, TableFull}
-use Rattle.rules.specs.Payouts.{asCaller, grantable, grantedRow, afterGrant, noOfferRoom, reservePayout}
-use Rattle.rules.proofs.Facts.{Rows, OfferOk, WellFormed}
-use Rattle.rules.proofs.Tables.{put-length, put-length-has}
+use Rattle.rules.specs.Payouts.{grantable, grantedRow, afterGrant, noOfferRoom, reservePayout}
+use Rattle.rules.specs.inner.Facts.{OfferOk, WellFormed}
+use Rattle.rules.proofs.Tests.{cases}
+use Rattle.rules.proofs.Rooms.{has-gone}
+use Rattle.rules.proofs.Kept.{room-for}
 use Rattle.rules.proofs.Writes.{OldOffer, old-offer}
+use Rattle.books.specs.Layout.{offerWidth, pools}
 use Rattle.books.specs.Tables.{roomOf, usedOf}
-use Rattle.books.specs.Words.{Tables, offerRowAt, booksOf, goodTables, balanceWord}
+use Rattle.books.specs.Words.{Tables, offerRowAt, booksOf, goodTables}
 use Rattle.books.proofs.Lists.{rows-length}
-use Rattle.books.proofs.Good.{good-read, good-formed, good-balance, good-unpaid}
+use Rattle.books.proofs.Good.{good-formed}
 use Rattle.books.proofs.Writing.{balance-is, unpaid-is, offer-room-is}
-use Rattle.payouts.specs.Payouts.{CanWriteOffer, offerWritten, ReserveAsked, Grantable, wantedOf, grantableOf}
-use Rattle.payouts.proofs.PayoutCodes.{taken, left, codeOf, Amount, stopped, past}
+use Rattle.payouts.specs.Payouts.{ReserveAsked}
+use Rattle.payouts.specs.declared.reserve.Reserved.{Reserved}
+use Rattle.payouts.specs.declared.reserve.Reserved.the-variants as grant
+use Rattle.payouts.specs.declared.offer.Found.{Found}
+use Rattle.payouts.specs.declared.offer.OfferChange.{OfferChange}
+use Rattle.payouts.specs.inner.Openings.{callerCode}
+use Rattle.payouts.specs.inner.Offers.{changeOf, CanWriteOffer, offerWritten}
+use Rattle.payouts.specs.inner.Amounts.{Grantable, grantableOf}
+use Rattle.payouts.specs.inner.Settled.{reserveSettled}
+use Rattle.payouts.proofs.Openings.{Past, by-code}
+use Rattle.payouts.proofs.OfferWrites.{found}
+use Rattle.payouts.proofs.PoolFigures.{pool-figures}
 
--- ---- an offer has a row where something is reserved
+-- the plan of what is settled, and what its writing asks
+abbrev pub reservedPlan : Books → Reserved → Plan
+reservedPlan b (grant.Refused k) = refused k
+reservedPlan b grant.Nothing = answers (pos 0) (pos 0) b
+reservedPlan b (grant.Grants n w) = answers (pos n) (pos 0) (offerWritten b w)
 
-has-reserved : (k low : ℕ) (d : OfferRow) → d .reserved ≡ 0 → (rows : List OfferRow) → Rows offerKey OfferOk low rows
-    → not (has offerKey k rows) ≡ eqb (find offerKey d k rows .reserved) 0
-unfolding has find
-has-reserved k low d e [] r = sym (eq-eqb (d .reserved) 0 e)
-has-reserved k low d e (x ∷ rows) r = go (ltb (offerKey x) k) (eqb (offerKey x) k) (has-reserved k (offerKey x) d e rows (r .2))
-  where
-    go : (s t : Bool) → not (has offerKey k rows) ≡ eqb (find offerKey d k rows .reserved) 0
-        → not (cond s (has offerKey k rows) t) ≡ eqb ((cond s (find offerKey d k rows) (cond t x d)) .reserved) 0
-    go true t i = i
-    go false true i = sym (ne-eqb (x .reserved) 0 (λ z. omega (arith, r .1 .some)))
-    go false false i = sym (eq-eqb (d .reserved) 0 e)
-
-room-for : (r : OfferRow) (rows : List OfferRow) (room : ℕ) → length rows ≤ room → (not (has offerKey (offerKey r) rows) && leb room (length rows)) ≡ false
-    → length (put offerKey offerGone r rows) ≤ room
-room-for r rows room h e = go (has offerKey (offerKey r) rows) refl e
-  where
-    go : (t : Bool) → has offerKey (offerKey r) rows ≡ t → (not t && leb room (length rows)) ≡ false → length (put offerKey offerGone r rows) ≤ room
-    go true f e = omega (arith, put-length-has offerKey offerGone r rows f)
-    go false f e = omega (arith, put-length offerKey offerGone r rows, leb-false room (length rows) e)
+abbrev pub ReserveReady : Tables → Reserved → Type 0
+ReserveReady t (grant.Refused k) = Unit {0}
+ReserveReady t grant.Nothing = Unit {0}
+ReserveReady t (grant.Grants n w) = CanWriteOffer t w × (n < 2 ^ 63)
 
 module _ (t : Tables) (g : goodTables t ≡ true) (signer : Account) (c : ReserveCall) (q : ReserveAsked c) where
   abbrev b : Books
   b = booksOf t
 
   abbrev old : OfferRow
-  old = offerAt b (c .pool) (c .offer .0)
+  old = offerAt b (c .pool) (c .offer)
 
   abbrev n : ℕ
   n = up (grantable b c)
 
+  abbrev code : ℕ
+  code = callerCode b signer (c .amount)
+
+  -- what is written
+  abbrev granted : OfferChange
+  granted = changeOf t (grantedRow b c n) (unpaidOf b (c .pool) + n)
+
   formed : WellFormed b
   formed = good-formed t g
 
-  pub old-is : OldOffer (c .pool) (c .offer .0) old
-  old-is = old-offer b (formed .offer-rows) (c .pool) (c .offer .0) (q .offer .word)
+  pub old-is : OldOffer (c .pool) (c .offer) old
+  old-is = old-offer b (formed .offer-rows) (c .pool) (c .offer) (q .offer .word)
 
-  -- ---- the rungs
+  pub pool-is : c .pool < pools
+  pool-is = omega (arith, q .pool)
 
-  abbrev granting : Plan
-  granting = noOfferRoom b c refuses TableFull else answers (pos n) (pos 0) (afterGrant b c n)
+  pub plan-is : reservedPlan b (reserveSettled t signer c) ≡ reservePayout b signer c
+  unfolding reserveSettled reservePayout
+  plan-is = go (eqb code 0) (eqb n 0) (ltb limit (old .reserved + n)) (noOfferRoom b c) ∙ sym (by-code b signer (c .amount) _)
+    where
+      go : (z u v w : Bool) → reservedPlan b (cond z (cond u grant.Nothing (cond v (grant.Refused OverLimit) (cond w (grant.Refused TableFull) (grant.Grants n granted)))) (grant.Refused code))
+          ≡ cond z (cond u (answers (pos 0) (pos 0) b) (v refuses OverLimit else w refuses TableFull else answers (pos n) (pos 0) (afterGrant b c n))) (refused code)
+      go true true v w = refl
+      go true false true w = refl
+      go true false false true = refl
+      go true false false false = refl
+      go false u v w = refl
 
-  abbrev more : Plan
-  more = ltb limit (old .reserved + n) refuses OverLimit else granting
+  can-write : (n ≡ 0 → ⊥) → old .reserved + n ≤ limit → noOfferRoom b c ≡ false → CanWriteOffer t granted
+  unfolding noOfferRoom
+  can-write some fits e = record {
+    good = g;
+    used-is = refl;
+    fine = record { pool = q .pool; number = q .offer; some = omega (arith, some); most = fits; covered = omega (arith, old-is .covered) };
+    room = room-for offerKey offerGone (grantedRow b c n) (b .offers) (b .rooms .offers) (formed .offer-room .enough) e;
+  }
 
-  abbrev rest : Plan
-  rest = cond (eqb n 0) (answers (pos 0) (pos 0) b) more
+  pub ready : ReserveReady t (reserveSettled t signer c)
+  unfolding reserveSettled
+  ready =
+      cases (eqb code 0) _ _ (ReserveReady t)
+      (λ z. cases (eqb n 0) _ _ (ReserveReady t) (λ e. tt)
+      (λ e. cases (ltb limit (old .reserved + n)) _ _ (ReserveReady t) (λ e. tt)
+      (λ f. cases (noOfferRoom b c) _ _ (ReserveReady t) (λ e. tt)
+      (λ r. let l = ltb-false limit (old .reserved + n) f in (can-write (eqb-false n 0 e) l r, omega (arith, l))))))
+      (λ z. tt)
 
-  by-rest : reservePayout b signer c ≡ asCaller b signer (c .amount) rest
-  unfolding reservePayout
-  by-rest = refl
-
-  pub refused-is : (k : ℕ) → k ≡ codeOf b signer (c .amount) → (k ≡ 0 → ⊥) → refused k ≡ reservePayout b signer c
-  refused-is k e m = sym (by-rest ∙ stopped b signer (c .amount) k e m rest)
-
-  module _ (z : codeOf b signer (c .amount) ≡ 0) where
-    pub nothing-is : n ≡ 0 → answers (pos 0) (pos 0) b ≡ reservePayout b signer c
-    nothing-is e = sym (by-rest ∙ past b signer (c .amount) z rest ∙ taken (answers (pos 0) (pos 0) b) more (eq-eqb n 0 e))
-
-    module _ (some : 0 < n) where
-      by-more : reservePayout b signer c ≡ more
-      by-more = by-rest ∙ past b signer (c .amount) z rest ∙ left (answers (pos 0) (pos 0) b) more (ne-eqb n 0 (λ e. omega arith))
-
-      pub over-is : limit < old .reserved + n → refused OverLimit ≡ reservePayout b signer c
-      over-is h = sym (by-more ∙ taken (refused OverLimit) granting (lt-ltb limit (old .reserved + n) h))
-
-      module _ (fits : old .reserved + n ≤ limit) where
-        by-granting : reservePayout b signer c ≡ granting
-        by-granting = by-more ∙ left (refused OverLimit) granting (le-ltb limit (old .reserved + n) fits)
-
-        pub full-is : noOfferRoom b c ≡ true → refused TableFull ≡ reservePayout b signer c
-        full-is e = sym (by-granting ∙ taken (refused TableFull) (answers (pos n) (pos 0) (afterGrant b c n)) e)
-
-        grants-is : noOfferRoom b c ≡ false → answers (pos n) (pos 0) (afterGrant b c n) ≡ reservePayout b signer c
-        grants-is e = sym (by-granting ∙ left (refused TableFull) (answers (pos n) (pos 0) (afterGrant b c n)) e)
-
-        can-write : noOfferRoom b c ≡ false → CanWriteOffer t (grantedRow b c n)
-        unfolding noOfferRoom
-        can-write e = record {
-          good = g;
-          fine = record { pool = q .pool; number = q .offer; some = omega arith; most = fits; covered = omega (arith, old-is .covered) };
-          room = room-for (grantedRow b c n) (b .offers) (b .rooms .offers) (formed .offer-room .enough) e;
-        }
-
-        -- as the code has it: w the word of what is granted, r and p the figures of the offer's row, m the unpaid sum
-        module _ (w r p m : ℕ) (ew : w ≡ n) (er : r ≡ old .reserved) (ep : p ≡ old .paid) (em : m ≡ unpaidOf b (c .pool)) (e : noOfferRoom b c ≡ false) where
-          pub granted-plan : answers (pos w) (pos 0) (offerWritten b (offerRow (c .pool) (c .offer .0) (r + w) p) (m + w)) ≡ reservePayout b signer c
-          granted-plan = rw (ew, er, ep, em) (grants-is e)
-
-          pub granted-ready : CanWriteOffer t (offerRow (c .pool) (c .offer .0) (r + w) p)
-          granted-ready = rw (ew, er, ep) (can-write e)
+  -- and so of an answer that is what is settled
+  pub settled : (r x : Reserved) → r ≡ reserveSettled t signer c → r ≡ x → (reservedPlan b x ≡ reservePayout b signer c) × ReserveReady t x
+  settled r x e f = let h = sym e ∙ f in (ap (reservedPlan b) (sym h) ∙ plan-is, subst (ReserveReady t) h ready)
 
   -- ---- the code's tests and figures
 
-  offers-count : length (b .offers) ≡ usedOf 4 (t .offers)
+  offers-count : length (b .offers) ≡ usedOf offerWidth (t .offers)
   unfolding booksOf
-  offers-count = rows-length offerRowAt (t .offers) 0 (usedOf 4 (t .offers))
+  offers-count = rows-length offerRowAt (t .offers) 0 (usedOf offerWidth (t .offers))
 
-  pub room-is : (v : Bool) (r m : ℕ) → r ≡ old .reserved → m ≡ usedOf 4 (t .offers) → v ≡ (eqb r 0 && leb (roomOf 4 (t .offers)) m) → v ≡ noOfferRoom b c
+  pub room-is : (eqb (old .reserved) 0 && leb (roomOf offerWidth (t .offers)) (usedOf offerWidth (t .offers))) ≡ noOfferRoom b c
   unfolding noOfferRoom
-  room-is v r m er em ev =
-      let x : eqb r 0 ≡ not (has offerKey (keyOf (c .pool) (c .offer .0)) (b .offers)) = ap (λ (y : ℕ). eqb y 0) er ∙ sym (has-reserved (keyOf (c .pool) (c .offer .0)) 0 (offerRow (c .pool) (c .offer .0) 0 0) refl (b .offers) (formed .offer-rows)) in
-      let y : leb (roomOf 4 (t .offers)) m ≡ leb (b .rooms .offers) (length (b .offers)) = ap₂ leb (offer-room-is t) (em ∙ sym offers-count) in
-      ev ∙ ap₂ (λ (k l : Bool). k && l) x y
+  room-is =
+      let x = has-gone offerKey OfferOk offerGone (noOffer (c .pool) (c .offer)) (keyOf (c .pool) (c .offer .0)) refl (λ y ok. ne-eqb (y .reserved) 0 (λ z. omega (arith, ok .some))) 0 (b .offers) (formed .offer-rows) in
+      ap₂ (λ (k l : Bool). k && l) (sym x) (ap₂ leb (offer-room-is t) (sym offers-count))
 
-  pool-is : c .pool < 4
-  pool-is = omega (arith, q .pool)
+  -- what is written, as the code has it: of the row f that was found, what w is granted, and the unpaid sum m
+  pub granted-is : (f : Found) (w m : ℕ) → f ≡ found t (c .pool) (c .offer) → w ≡ n → m ≡ unpaidOf b (c .pool)
+      → grant.Grants w (record { used = f .used; row = record { pool = c .pool; offer = c .offer .0; reserved = f .row .reserved + w; paid = f .row .paid }; unpaid = m + w }) ≡ grant.Grants n granted
+  granted-is f w m ef ew em = rw (ef, ew, em)
 
-  module _ (a : Amount (c .amount)) (w r : ℕ) (ew : w ≡ up (c .amount)) (er : r ≡ old .reserved) where
-    pub can-grant : Grantable (t .books) (c .pool) w r
-    can-grant = record {
-      twelve = good-read t g .twelve;
-      pool-is = q .pool;
-      amount-most = omega (arith, ew, a .most);
-      granted-most = omega (arith, er, old-is .most);
-      unpaid = omega (arith, unpaid-is t (c .pool) pool-is, good-unpaid t g (c .pool) pool-is);
-      balance = subst⁻¹ (Within 1_024_000_000_000_000_000) (balance-is t (c .pool) pool-is) (good-balance t g (c .pool) pool-is);
-    }
+  module _ (w : ℕ) (a : Past b signer (c .amount) w) where
+    pub can-grant : Grantable (t .books) (c .pool) w (old .reserved)
+    can-grant = record { figures = pool-figures t g (c .pool) w pool-is (a .most); granted-most = old-is .most }
 
-    pub grantable-is : grantableOf (t .books) (c .pool) w r ≡ grantable b c
-    grantable-is =
-        let x : wantedOf (c .pool) w r ≡ cond (eqb (c .pool) flat) (c .amount) (pos (capped (c .pool) (up (c .amount))) -ℤ pos (old .reserved)) =
-        ap₂ (λ (k l : ℕ). wantedOf (c .pool) k l) ew er ∙ ap (λ (y : ℤ). cond (eqb (c .pool) flat) y (pos (capped (c .pool) (up (c .amount))) -ℤ pos (old .reserved))) (sym (a .whole-is)) in
-        let y : balanceWord (t .books) (c .pool) -ℤ pos (getD (t .books) (4 + c .pool) 0) ≡ balanceOf b (c .pool) -ℤ pos (unpaidOf b (c .pool)) =
-        ap₂ (λ (k : ℤ) (l : ℕ). k -ℤ pos l) (balance-is t (c .pool) pool-is) (unpaid-is t (c .pool) pool-is) in
-        ap₂ minZ x y
+    pub grantable-is : grantableOf (t .books) (c .pool) w (old .reserved) ≡ grantable b c
+    grantable-is = rw (a .whole-is, a .word, balance-is t (c .pool) pool-is, unpaid-is t (c .pool) pool-is)

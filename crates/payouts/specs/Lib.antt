@@ -1,3 +1,3 @@
--- The definitions that the contracts of this floor cite.
-pub mod CallerCode
+-- What a call asks (Payouts), and the contracts of private functions (inner).
 pub mod Payouts
+pub mod inner

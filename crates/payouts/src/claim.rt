@@ -1,8 +1,11 @@
 // Claim: a payment on an offer's cover.
 use crate::loss::take_loss;
-use crate::loss::write_offer;
-use crate::payer::caller_code;
+use crate::offer::OfferChange;
+use crate::offer::find_offer;
+use crate::offer::write_offer;
+use crate::payer::open_call;
 use crate::payer::pay_to;
+use crate::payer::positive_part;
 use crate::payer::tell;
 use books::OfferLine;
 use rules::Account;
@@ -14,38 +17,40 @@ use rules::limits::FLAT;
 use rules::refuse;
 ghost use mathlib.Core.Path.{_≡_};
 ghost use mathlib.Core.Bool.{true};
-ghost use mir.Syntax.{w64};
-ghost use mir.Val.{toZ};
+ghost use Rattle.whole.specs.Whole.{up};
 ghost use Rattle.rules.specs.Payouts.{claimPayout};
 ghost use Rattle.books.specs.Words.{tables, booksOf, goodTables, result, acted};
-ghost use Rattle.books.specs.Held.{offerOf};
-ghost use Rattle.payouts.specs.Payouts.{Claimable, claimableOf, ClaimAsked, ClaimSettled, Paying, payingPlan};
+ghost use Rattle.payouts.specs.Payouts.{ClaimAsked};
+ghost use Rattle.payouts.specs.inner.Amounts.{Claimable, claimableOf};
+ghost use Rattle.payouts.specs.inner.Settled.{claimSettled};
+ghost use Rattle.payouts.specs.inner.Losses.{Paying, payingPlan};
 
-// What a claim comes to before anything is written: refused, nothing to pay of a cover, or an amount, with the cover left, the offer's
-// row and the unpaid sum after it.
+// A payment on a cover: its amount, the cover left after it, and what is written of the offer.
+pub struct CoverPaid {
+    pub amount: u64,
+    pub left: u64,
+    pub change: OfferChange,
+}
+
+// What a claim comes to before anything is written: refused, nothing to pay of a cover, or a payment.
 pub enum Claimed {
     Refused(u64),
     Nothing(u64),
-    Pays {
-        amount: u64,
-        left: u64,
-        row: OfferLine,
-        unpaid: u64,
-    },
+    Pays(CoverPaid),
 }
 
-// What a claim of `amount` may take of a cover. Both amounts are signed words.
+// What a claim of `amount` may take of a cover.
 fn claimable(books: &[u64], pool: u64, amount: u64, cover: u64) -> u64
-    requires { ⌜ Claimable (now books) pool cover ⌝ }
-    ensures { λ r. ⌜ toZ w64 r ≡ claimableOf (now (books .entry)) pool (toZ w64 amount) cover ⌝ }
+    requires { ⌜ Claimable (now books) pool amount cover ⌝ }
+    ensures { λ r. ⌜ r ≡ up (claimableOf (now (books .entry)) pool amount cover) ⌝ }
 {
     let least = whole::lesser(amount, cover);
     let balance = books::balance(books, pool);
     if pool == FLAT {
         let others = books::unpaid(books, pool) - cover;
-        return whole::lesser(least, whole::sub(balance, others));
+        return positive_part(whole::lesser(least, whole::sub(balance, others)));
     }
-    whole::lesser(least, balance)
+    positive_part(whole::lesser(least, balance))
 }
 
 fn settle_claim(
@@ -57,35 +62,37 @@ fn settle_claim(
 ) -> Claimed
     requires { ⌜ goodTables (tables (now stakes) (now offers) (now books)) ≡ true ⌝ }
     requires { ⌜ ClaimAsked c ⌝ }
-    ensures { λ r. ⌜ ClaimSettled (tables (now (stakes .entry)) (now (offers .entry)) (now (books .entry))) signer c r ⌝ }
+    ensures { λ r. ⌜ r ≡ claimSettled (tables (now (stakes .entry)) (now (offers .entry)) (now (books .entry))) signer c ⌝ }
 {
-    let amount = whole::to_word(c.amount);
-    let code = caller_code(books, signer, amount);
-    if code != 0 {
-        return Claimed::Refused(code);
+    let start = open_call(books, signer, c.amount);
+    if start.code != 0 {
+        return Claimed::Refused(start.code);
     }
-    let used = books::used_offers(offers);
-    let old = books::read_offer(offers, used, c.pool, c.offer);
-    let cover = old.reserved - old.paid;
+    let old = find_offer(offers, c.pool, c.offer);
+    let cover = old.row.reserved - old.row.paid;
     if cover == 0 {
         return Claimed::Refused(INSUFFICIENT_BALANCE);
     }
-    let paid = claimable(books, c.pool, amount, cover);
-    if !whole::less(0, paid) {
+    let paid = claimable(books, c.pool, start.amount, cover);
+    if paid == 0 {
         return Claimed::Nothing(cover);
     }
     let row = OfferLine {
         pool: c.pool,
         offer: c.offer.0,
-        reserved: old.reserved,
-        paid: old.paid + paid,
+        reserved: old.row.reserved,
+        paid: old.row.paid + paid,
     };
-    Claimed::Pays {
-        amount: paid,
-        left: cover - paid,
+    let change = OfferChange {
+        used: old.used,
         row,
         unpaid: books::unpaid(books, c.pool) - paid,
-    }
+    };
+    Claimed::Pays(CoverPaid {
+        amount: paid,
+        left: cover - paid,
+        change,
+    })
 }
 
 // Writes a claim that was settled to pay: the loss, the offer's row and the unpaid sum. Refused where a stake would pass its limit.
@@ -94,17 +101,14 @@ fn pay_claim(
     offers: &mut [u64],
     books: &mut [u64],
     lender: Account,
-    amount: u64,
-    left: u64,
-    row: OfferLine,
-    unpaid: u64,
+    p: CoverPaid,
 ) -> Answer
-    requires { ⌜ Paying (tables (now stakes) (now offers) (now books)) amount left (offerOf row) ⌝ }
-    ensures { λ r. ⌜ result r (tables (now (stakes .exit)) (now (offers .exit)) (now (books .exit))) ≡ acted (tables (now (stakes .entry)) (now (offers .entry)) (now (books .entry))) (payingPlan (booksOf (tables (now (stakes .entry)) (now (offers .entry)) (now (books .entry)))) lender amount left (offerOf row) unpaid) ⌝ }
+    requires { ⌜ Paying (tables (now stakes) (now offers) (now books)) p ⌝ }
+    ensures { λ r. ⌜ result r (tables (now (stakes .exit)) (now (offers .exit)) (now (books .exit))) ≡ acted (tables (now (stakes .entry)) (now (offers .entry)) (now (books .entry))) (payingPlan (booksOf (tables (now (stakes .entry)) (now (offers .entry)) (now (books .entry)))) lender p) ⌝ }
 {
-    if take_loss(stakes, offers, books, row.pool, amount) {
-        write_offer(stakes, offers, books, row, unpaid);
-        return pay_to(lender, amount, left);
+    if take_loss(stakes, offers, books, p.change.row.pool, p.amount) {
+        write_offer(stakes, offers, books, p.change);
+        return pay_to(lender, p.amount, p.left);
     }
     refuse(OVER_LIMIT)
 }
@@ -124,11 +128,6 @@ pub fn claim_payout(
     match settle_claim(stakes, offers, books, signer, c) {
         Claimed::Refused(code) => refuse(code),
         Claimed::Nothing(cover) => tell(0, cover),
-        Claimed::Pays {
-            amount,
-            left,
-            row,
-            unpaid,
-        } => pay_claim(stakes, offers, books, c.lender, amount, left, row, unpaid),
+        Claimed::Pays(p) => pay_claim(stakes, offers, books, c.lender, p),
     }
 }

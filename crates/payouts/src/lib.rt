@@ -1,6 +1,7 @@
 // Pay, reserve and claim on lent words: settled on what is lent, then written.
 mod claim;
 mod loss;
+mod offer;
 mod pay;
 mod payer;
 mod reserve;

@@ -1,7 +1,8 @@
 // Pay: a defaulted invoice paid out of a pool.
 use crate::loss::take_loss;
-use crate::payer::caller_code;
+use crate::payer::open_call;
 use crate::payer::pay_to;
+use crate::payer::positive_part;
 use crate::payer::tell;
 use rules::Account;
 use rules::Answer;
@@ -14,7 +15,11 @@ ghost use mathlib.Core.Path.{_≡_};
 ghost use mathlib.Core.Bool.{true};
 ghost use Rattle.rules.specs.Payouts.{payOut};
 ghost use Rattle.books.specs.Words.{tables, booksOf, goodTables, result, acted};
-ghost use Rattle.payouts.specs.Payouts.{PayAsked, PaySettled, CanLose, lossPlan};
+ghost use Rattle.whole.specs.Whole.{up};
+ghost use Rattle.payouts.specs.Payouts.{PayAsked};
+ghost use Rattle.payouts.specs.inner.Losses.{CanLose, lossPlan};
+ghost use Rattle.payouts.specs.inner.Amounts.{Payable, payableOf};
+ghost use Rattle.payouts.specs.inner.Settled.{paySettled};
 
 // What a call comes to before anything is written: refused, nothing to pay, or an amount.
 pub enum Payment {
@@ -23,15 +28,23 @@ pub enum Payment {
     Pays(u64),
 }
 
+// What a call for an amount may be paid: at most what the pool's cap and its balance let.
+fn payable(books: &[u64], pool: u64, amount: u64) -> u64
+    requires { ⌜ Payable (now books) pool amount ⌝ }
+    ensures { λ r. ⌜ r ≡ up (payableOf (now (books .entry)) pool amount) ⌝ }
+{
+    let balance = books::balance(books, pool);
+    positive_part(whole::lesser(rules::capped_amount(pool, amount), balance))
+}
+
 fn settle_pay(stakes: &[u64], offers: &[u64], books: &[u64], signer: Account, c: PayCall) -> Payment
     requires { ⌜ goodTables (tables (now stakes) (now offers) (now books)) ≡ true ⌝ }
     requires { ⌜ PayAsked c ⌝ }
-    ensures { λ r. ⌜ PaySettled (tables (now (stakes .entry)) (now (offers .entry)) (now (books .entry))) signer c r ⌝ }
+    ensures { λ r. ⌜ r ≡ paySettled (tables (now (stakes .entry)) (now (offers .entry)) (now (books .entry))) signer c ⌝ }
 {
-    let amount = whole::to_word(c.amount);
-    let code = caller_code(books, signer, amount);
-    if code != 0 {
-        return Payment::Refused(code);
+    let start = open_call(books, signer, c.amount);
+    if start.code != 0 {
+        return Payment::Refused(start.code);
     }
     if c.reply == 0 {
         return Payment::Refused(NO_REGISTRY);
@@ -39,11 +52,8 @@ fn settle_pay(stakes: &[u64], offers: &[u64], books: &[u64], signer: Account, c:
     if c.reply == 1 {
         return Payment::Refused(INVALID_TRANSITION);
     }
-    let paid = whole::lesser(
-        rules::capped_amount(c.pool, amount),
-        books::balance(books, c.pool),
-    );
-    if !whole::less(0, paid) {
+    let paid = payable(books, c.pool, start.amount);
+    if paid == 0 {
         return Payment::Nothing;
     }
     Payment::Pays(paid)

@@ -11,20 +11,26 @@ use rules::limits::LIMIT;
 use rules::no_transfer;
 use rules::transfer_out;
 ghost use mathlib.Core.Path.{_≡_};
-ghost use mathlib.Core.Bool.{not};
 ghost use Prim.Native.Nat.{_<_, _^_};
-ghost use lib.Dec.{eqb};
 ghost use lib.IntN.{pos};
-ghost use lib.ListN.{length, getD};
+ghost use lib.ListN.{length};
 ghost use mir.Syntax.{w64};
 ghost use mir.Val.{toZ};
+ghost use Rattle.whole.specs.Whole.{up};
 ghost use Rattle.rules.specs.Answers.{done, noTransfer, transferOut};
-ghost use Rattle.payouts.specs.CallerCode.{callerCode};
+ghost use Rattle.books.specs.Layout.{booksWords};
+ghost use Rattle.payouts.specs.inner.Openings.{callerCode, opening, settingsAlone};
 
-// The code of the first of them that refuses, 0 where none does. `amount` is a signed word.
-pub fn caller_code(books: &[u64], signer: Account, amount: u64) -> u64
-    requires { ⌜ length (now books) ≡ 12 ⌝ }
-    ensures { λ r. ⌜ r ≡ callerCode (not (eqb (getD (now (books .entry)) 10 0) 0)) (getD (now (books .entry)) 9 0) signer (toZ w64 amount) ⌝ }
+// The code of the first tests, 0 where none refuses, and the amount as a word.
+pub struct Opening {
+    pub code: u64,
+    pub amount: u64,
+}
+
+// The code of the first of them that refuses. `amount` is a signed word.
+fn caller_code(books: &[u64], signer: Account, amount: u64) -> u64
+    requires { ⌜ length (now books) ≡ booksWords ⌝ }
+    ensures { λ r. ⌜ r ≡ callerCode (settingsAlone (now (books .entry))) signer (toZ w64 amount) ⌝ }
 {
     if books::is_paused(books) {
         return PAUSED;
@@ -43,6 +49,26 @@ pub fn caller_code(books: &[u64], signer: Account, amount: u64) -> u64
         return OVER_LIMIT;
     }
     0
+}
+
+// What each of the three begins with.
+pub fn open_call(books: &[u64], signer: Account, amount: i64) -> Opening
+    requires { ⌜ length (now books) ≡ booksWords ⌝ }
+    ensures { λ r. ⌜ r ≡ opening (settingsAlone (now (books .entry))) signer amount ⌝ }
+{
+    let word = whole::to_word(amount);
+    let code = caller_code(books, signer, word);
+    Opening { code, amount: word }
+}
+
+// A signed word where it is above 0, and 0 elsewhere.
+pub fn positive_part(w: u64) -> u64
+    ensures { λ r. ⌜ r ≡ up (toZ w64 w) ⌝ }
+{
+    if whole::is_negative(w) {
+        return 0;
+    }
+    w
 }
 
 // The answer of a call that is done and moves no money.

@@ -7,17 +7,14 @@ use Rattle.rules.specs.Books.{Books}
 use Rattle.rules.specs.Answers.{enact}
 use Rattle.rules.specs.Step.{step}
 use Rattle.rules.specs.Formed.{wellFormed}
-use Rattle.rules.proofs.Facts.{WellFormed}
 use Rattle.rules.proofs.Decided.{formed-read}
 use Rattle.rules.proofs.Shapes.{step-cases}
 use Rattle.promises.specs.Calls.{Call}
 use Rattle.promises.specs.Reach.{reachOf, Alone}
 use Rattle.promises.proofs.Reached.{same, plan-alone}
 
-pub step-alone : (b : Books) → WellFormed b → (c : Call) → Alone (reachOf (c .operation)) b (step b c .books)
-unfolding step
-step-alone b w c =
-    step-cases b c (λ p. Alone (reachOf (c .operation)) b ((enact b p) .books)) (λ k. same (reachOf (c .operation)) b) (λ s. plan-alone b w (c .now) (c .signer) (c .operation) (s .fields))
-
 pub leaves-alone : (b : Books) → wellFormed b ≡ true → (c : Call) → Alone (reachOf (c .operation)) b (step b c .books)
-leaves-alone b e c = step-alone b (formed-read b e) c
+unfolding step
+leaves-alone b e c =
+    let o = c .operation in
+    step-cases b c (λ p. Alone (reachOf o) b ((enact b p) .books)) (λ k. same (reachOf o) b) (λ s. plan-alone b (formed-read b e) (c .now) (c .signer) o (s .fields))

@@ -1,36 +1,32 @@
 -- A covered pool stays covered, as long as no withdrawal and no direct payout takes effect there.
 use mathlib.Core.Path.{_≡_, refl, sym, ap}
-use mathlib.Core.Bool.{Bool, true, false}
+use mathlib.Core.Bool.{true, false}
 use mathlib.Core.List.{List, [], _∷_}
-use Prim.Native.Nat.{ℕ, _+_, _-_}
+use Prim.Native.Nat.{ℕ}
 use native.Mathlib.Omega.{arith}
 use borrow.Author.Tests.{eqb-true}
 use lib.Dec.{eqb}
-use lib.IntN.{pos, _+ℤ_, _-ℤ_}
+use lib.IntN.{pos}
 use Rattle.whole.specs.Whole.{up}
 use Rattle.whole.proofs.Linear.{whole, sum, dif}
 use Rattle.rules.specs.Table.{all}
 use Rattle.rules.specs.Books.{Books, balanceOf, unpaidOf}
 use Rattle.rules.specs.Answers.{enact}
-use Rattle.rules.specs.Payouts.{grantable, claimable}
+use Rattle.rules.specs.Payouts.{claimable, afterLoss}
 use Rattle.rules.specs.Step.{fieldTests, planOf, step}
 use Rattle.rules.proofs.Tests.{nth, pool-read, number-read}
-use Rattle.rules.proofs.Facts.{WellFormed}
+use Rattle.rules.specs.inner.Facts.{WellFormed}
 use Rattle.rules.proofs.Ladders.{stake-cases, reserve-cases, claim-cases}
 use Rattle.rules.proofs.Shapes.{step-cases}
 use Rattle.rules.proofs.Payable.{granting, claimed-is, cover-part}
+use Rattle.rules.proofs.Pools.{balance-stays, unpaid-stays}
 use Rattle.rules.proofs.Kept.{step-formed}
 use Rattle.promises.specs.Calls.{Account, StakeCall, ReserveCall, ClaimCall, Operation, Call, Stake, Withdraw, Pay, Reserve, Claim, Rate, Pause, Unpause, PayoutCaller, Unknown}
 use Rattle.promises.specs.Reach.{Reach, reachOf, holds, Alone}
 use Rattle.promises.specs.Histories.{run}
 use Rattle.promises.specs.Claims.{Covered, takesOut, Quiet}
-use Rattle.promises.proofs.Keys.{at-same}
-use Rattle.promises.proofs.Reached.{plan-alone}
-
--- one that concerns the pool, and one that does not
-either : {P : Type 0} (t : Bool) → (t ≡ true → P) → (t ≡ false → P) → P
-either true f g = f refl
-either false f g = g refl
+use Rattle.promises.proofs.Pools.{has-pools, loss-has-pools, balance-put, unpaid-put}
+use Rattle.promises.proofs.Reached.{either, plan-alone}
 
 module _ (p : ℕ) (b : Books) (w : WellFormed b) (h : Covered b p) where
   -- both figures of the pool out of reach
@@ -40,21 +36,17 @@ module _ (p : ℕ) (b : Books) (w : WellFormed b) (h : Covered b p) where
   stake-covered : (now : ℕ) (signer : Account) (c : StakeCall) → all (fieldTests (Stake c)) ≡ true → eqb (c .pool) p ≡ true → Covered ((enact b (planOf b now signer (Stake c))) .books) p
   stake-covered now signer c t e =
       stake-cases b now signer c (λ pl. Covered ((enact b pl) .books) p) (λ k. h) (λ d.
-      let q = pool-read (c .pool) (nth _ t 0) in
       let s : p ≡ c .pool = sym (eqb-true (c .pool) p e) in
-      let g = at-same (b .balances) (c .pool) p (balanceOf b (c .pool) +ℤ c .amount) (pos 0) (w .four-balances) (omega arith) s in
       let f = ap (balanceOf b) s in
       let some = d .some in
-      rw g (omega (arith, whole, h, f, some, sum (balanceOf b (c .pool)) (c .amount))))
+      rw (balance-put b (c .pool) p _ _ (has-pools b w) (nth _ t 0) s, unpaid-stays b _ (c .pool) _ p)
+      (omega (arith, whole, h, f, some, sum (balanceOf b (c .pool)) (c .amount))))
 
   reserve-covered : (now : ℕ) (signer : Account) (c : ReserveCall) → all (fieldTests (Reserve c)) ≡ true → eqb (c .pool) p ≡ true → Covered ((enact b (planOf b now signer (Reserve c))) .books) p
   reserve-covered now signer c t e =
       reserve-cases b signer c (λ pl. Covered ((enact b pl) .books) p) (λ k. h) h (λ d.
-      let q = pool-read (c .pool) (nth _ t 0) in
       let s : p ≡ c .pool = sym (eqb-true (c .pool) p e) in
-      let g = at-same (b .unpaid) (c .pool) p (unpaidOf b (c .pool) + up (grantable b c)) 0 (w .four-unpaid) (omega arith) s in
-      let f = ap (balanceOf b) s in
-      rw (g, f) (granting b signer c d .room))
+      rw (unpaid-put b (c .pool) p _ _ (has-pools b w) (nth _ t 0) s, balance-stays b _ (c .pool) _ p, s) (granting b signer c d .room))
 
   claim-covered : (now : ℕ) (signer : Account) (c : ClaimCall) → all (fieldTests (Claim c)) ≡ true → eqb (c .pool) p ≡ true → Covered ((enact b (planOf b now signer (Claim c))) .books) p
   claim-covered now signer c t e =
@@ -62,12 +54,11 @@ module _ (p : ℕ) (b : Books) (w : WellFormed b) (h : Covered b p) where
       let q = pool-read (c .pool) (nth _ t 0) in
       let s : p ≡ c .pool = sym (eqb-true (c .pool) p e) in
       let n = up (claimable b c) in
-      let g = at-same (b .unpaid) (c .pool) p (unpaidOf b (c .pool) - n) 0 (w .four-unpaid) (omega arith) s in
-      let k = at-same (b .balances) (c .pool) p (balanceOf b (c .pool) -ℤ pos n) (pos 0) (w .four-balances) (omega arith) s in
       let f = ap (balanceOf b) s in
       let u = ap (unpaidOf b) s in
-      let part = cover-part b w (c .pool) (c .offer .0) (omega arith) (number-read (c .offer .0) (nth _ t 1) .word) in
-      rw (g, k) (omega (arith, whole, f, u, h, part, claimed-is b signer c d .cover-most, dif (balanceOf b (c .pool)) (pos n))))
+      let part = cover-part b w (c .pool) (c .offer) (omega arith) (number-read (c .offer .0) (nth _ t 1) .word) in
+      rw (unpaid-put (afterLoss b (c .pool) n) (c .pool) p _ _ (loss-has-pools b (c .pool) n (has-pools b w)) (nth _ t 0) s, balance-stays (afterLoss b (c .pool) n) _ (c .pool) _ p, balance-put b (c .pool) p _ _ (has-pools b w) (nth _ t 0) s)
+      (omega (arith, whole, f, u, h, part, claimed-is b signer c d .cover-most, dif (balanceOf b (c .pool)) (pos n))))
 
   kept : {x : Books} → x ≡ b → Covered x p
   kept {x} e = rw e h

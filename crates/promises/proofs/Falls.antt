@@ -17,7 +17,7 @@ use Rattle.rules.specs.Table.{keep, each}
 use Rattle.rules.specs.Books.{StakeRow, stakeKey, stakeGone}
 use Rattle.rules.specs.Sharing.{sharer, sharers, cutOf, reductions, cutRow, lowered, shared, stakesFit}
 use Rattle.rules.proofs.Tests.{cases, each-first, each-more}
-use Rattle.rules.proofs.Facts.{StakeOk, Rows}
+use Rattle.rules.specs.inner.Facts.{StakeOk, Rows}
 use Rattle.promises.specs.Claims.{noneBelow}
 
 -- each stake, less its reduction, is no higher above 0
@@ -38,49 +38,39 @@ gentle l t h r n (s ∷ u ∷ more) =
       gentle l t h (r -ℤ m) (omega (arith, whole, e, dif r m)) (u ∷ more),
     )
 
-abbrev noneAbove : List StakeRow → Bool
-noneAbove rows = each (λ r. leb (up (r .stake)) limit) rows
-
-ok-above : (low : ℕ) (rows : List StakeRow) → Rows stakeKey StakeOk low rows → noneAbove rows ≡ true
-unfolding each
-ok-above low [] h = refl
-ok-above low (r ∷ rows) h = each-more (λ x. leb (up (x .stake)) limit) r rows (le-leb (up (r .stake)) limit (omega (arith, h .1 .size, abs (r .stake)))) (ok-above (stakeKey r) rows (h .2))
-
-lowered-above : (pool low : ℕ) (rows : List StakeRow) (cuts : List ℤ) → Rows stakeKey StakeOk low rows → Gentle (sharers pool rows) cuts → noneAbove (lowered pool rows cuts) ≡ true
-unfolding lowered sharers each
-lowered-above pool low [] cuts h g = refl
-lowered-above pool low (r ∷ rows) [] h g = ok-above low (r ∷ rows) h
-lowered-above pool low (r ∷ rows) (c ∷ cs) h g = go (sharer pool r) (lowered-above pool (stakeKey r) rows cs (h .2)) (lowered-above pool (stakeKey r) rows (c ∷ cs) (h .2)) g
-  where
-    go : (t : Bool)
-        → (Gentle (sharers pool rows) cs → noneAbove (lowered pool rows cs) ≡ true)
-        → (Gentle (sharers pool rows) (c ∷ cs) → noneAbove (lowered pool rows (c ∷ cs)) ≡ true)
-        → Gentle (cond t (r .stake ∷ sharers pool rows) (sharers pool rows)) (c ∷ cs)
-        → noneAbove (cond t (keep stakeGone (cutRow r c) (lowered pool rows cs)) (r ∷ lowered pool rows (c ∷ cs))) ≡ true
-    go true i j g =
-        cases (stakeGone (cutRow r c)) (lowered pool rows cs) (cutRow r c ∷ lowered pool rows cs) (λ (z : List StakeRow). noneAbove z ≡ true)
-        (λ e. i (g .1))
-        (λ e. each-more (λ x. leb (up (x .stake)) limit) (cutRow r c) (lowered pool rows cs) (le-leb (up (r .stake -ℤ c)) limit (omega (arith, g .0, h .1 .size, abs (r .stake)))) (i (g .1)))
-    go false i j g = each-more (λ x. leb (up (x .stake)) limit) r (lowered pool rows (c ∷ cs)) (le-leb (up (r .stake)) limit (omega (arith, h .1 .size, abs (r .stake)))) (j g)
-
-pub shared-above : (pool loss balance : ℕ) (rows : List StakeRow) → loss ≤ balance → Rows stakeKey StakeOk 0 rows → noneAbove (shared pool loss balance rows) ≡ true
-unfolding shared
-shared-above pool loss balance rows h w = lowered-above pool 0 rows _ w (gentle loss balance h (pos loss) (omega (arith, whole)) (sharers pool rows))
-
--- none above and none below: all fit
-fits-by : (rows : List StakeRow) → noneAbove rows ≡ true → noneBelow rows ≡ true → stakesFit rows ≡ true
+-- rows as they stand fit
+ok-fits : (low : ℕ) (rows : List StakeRow) → Rows stakeKey StakeOk low rows → stakesFit rows ≡ true
 unfolding each stakesFit
-fits-by [] a d = refl
-fits-by (r ∷ rows) a d =
-    let x = each-first (λ x. leb (up (x .stake)) limit) r rows a in
-    let y = each-first (λ x. leb (dn (x .stake)) limit) r rows d in
-    let u = leb-true (up (r .stake)) limit (x .0) in
-    let v = leb-true (dn (r .stake)) limit (y .0) in
-    each-more (λ x. leb (natAbs (x .stake)) limit) r rows (le-leb (natAbs (r .stake)) limit (omega (arith, u, v, abs (r .stake)))) (fits-by rows (x .1) (y .1))
+ok-fits low [] h = refl
+ok-fits low (r ∷ rows) h = each-more (λ x. leb (natAbs (x .stake)) limit) r rows (le-leb (natAbs (r .stake)) limit (h .1 .size)) (ok-fits (stakeKey r) rows (h .2))
 
-pub falls-below : (rows : List StakeRow) → noneAbove rows ≡ true → stakesFit rows ≡ false → noneBelow rows ≡ false
-falls-below rows a f = go (noneBelow rows) refl
+-- rows of which none is below fit
+abbrev FitUnlessBelow : List StakeRow → Type 0
+FitUnlessBelow z = noneBelow z ≡ true → stakesFit z ≡ true
+
+-- a row that is no higher than an old one, and not below, fits before rows that fit
+fits-before : (x : StakeRow) (s : ℤ) (rows : List StakeRow) → natAbs s ≤ limit → up (x .stake) ≤ up s → FitUnlessBelow rows → FitUnlessBelow (x ∷ rows)
+unfolding stakesFit
+fits-before x s rows h g i d =
+    let y = each-first (λ r. leb (dn (r .stake)) limit) x rows d in
+    each-more (λ r. leb (natAbs (r .stake)) limit) x rows (le-leb (natAbs (x .stake)) limit (omega (arith, h, g, leb-true (dn (x .stake)) limit (y .0), abs (x .stake), abs s))) (i (y .1))
+
+lowered-fits : (pool low : ℕ) (rows : List StakeRow) (cuts : List ℤ) → Rows stakeKey StakeOk low rows → Gentle (sharers pool rows) cuts → FitUnlessBelow (lowered pool rows cuts)
+unfolding lowered sharers
+lowered-fits pool low [] cuts h g d = ok-fits low [] h
+lowered-fits pool low (r ∷ rows) [] h g d = ok-fits low (r ∷ rows) h
+lowered-fits pool low (r ∷ rows) (c ∷ cs) h g d = go (sharer pool r) (lowered-fits pool (stakeKey r) rows cs (h .2)) (lowered-fits pool (stakeKey r) rows (c ∷ cs) (h .2)) g d
   where
-    go : (t : Bool) → noneBelow rows ≡ t → noneBelow rows ≡ false
-    go true e = absurd (true≢false (sym (fits-by rows a e) ∙ f))
-    go false e = e
+    go : (t : Bool) → (Gentle (sharers pool rows) cs → FitUnlessBelow (lowered pool rows cs)) → (Gentle (sharers pool rows) (c ∷ cs) → FitUnlessBelow (lowered pool rows (c ∷ cs)))
+        → Gentle (cond t (r .stake ∷ sharers pool rows) (sharers pool rows)) (c ∷ cs)
+        → FitUnlessBelow (cond t (keep stakeGone (cutRow r c) (lowered pool rows cs)) (r ∷ lowered pool rows (c ∷ cs)))
+    go true i j g = cases (stakeGone (cutRow r c)) (lowered pool rows cs) (cutRow r c ∷ lowered pool rows cs) FitUnlessBelow (λ e. i (g .1)) (λ e. fits-before (cutRow r c) (r .stake) (lowered pool rows cs) (h .1 .size) (g .0) (i (g .1)))
+    go false i j g = fits-before r (r .stake) (lowered pool rows (c ∷ cs)) (h .1 .size) (omega arith) (j g)
+
+pub falls-below : (pool loss balance : ℕ) (rows : List StakeRow) → loss ≤ balance → Rows stakeKey StakeOk 0 rows → stakesFit (shared pool loss balance rows) ≡ false → noneBelow (shared pool loss balance rows) ≡ false
+unfolding shared
+falls-below pool loss balance rows h w f = go (noneBelow (shared pool loss balance rows)) refl
+  where
+    go : (t : Bool) → noneBelow (shared pool loss balance rows) ≡ t → t ≡ false
+    go true e = absurd (true≢false (sym (lowered-fits pool 0 rows _ w (gentle loss balance h (pos loss) (omega (arith, whole)) (sharers pool rows)) e) ∙ f))
+    go false e = refl

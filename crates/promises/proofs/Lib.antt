@@ -1,6 +1,7 @@
 -- What the rules promise. The theorems: `Figures`, `Refused`, `Formed` and `Alone` (of one call), `Granted`, `Cover` and `Sharing` (over
--- histories from a fresh set), `Words` (of the words that hold the books). The other files are their proofs.
-pub mod Keys
+-- histories from a fresh set), `Words` (of the words that hold the books), and `GrantedOnWords`, `CoverOnWords` and `SharingOnWords` (over histories
+-- of words). The other files are their proofs.
+pub mod Pools
 pub mod Rows
 pub mod Reached
 pub mod Alone
@@ -19,3 +20,6 @@ pub mod Losing
 pub mod Fairly
 pub mod Sharing
 pub mod Words
+pub mod GrantedOnWords
+pub mod CoverOnWords
+pub mod SharingOnWords

@@ -2,7 +2,7 @@
 use mathlib.Core.Path.{_≡_, refl, sym, _∙_, ap, ap₂}
 use mathlib.Core.Bool.{Bool, true, false, cond}
 use mathlib.Core.List.{List, [], _∷_, map}
-use Prim.Native.Nat.{ℕ, suc, _≤_, _<_}
+use Prim.Native.Nat.{ℕ, suc, _<_}
 use native.Mathlib.Omega.{arith}
 use borrow.Author.Tests.{eqb-true}
 use lib.IntN.{ℤ, pos, natAbs, _-ℤ_}
@@ -10,9 +10,10 @@ use lib.ListN.{length}
 use Rattle.whole.proofs.Linear.{whole, dif, abs}
 use Rattle.rules.specs.Table.{keyOf, find, keep}
 use Rattle.rules.specs.Books.{StakeRow, isZero, stakeKey, stakeGone, noStake}
+use Rattle.rules.specs.Calls.{accountNo}
 use Rattle.rules.specs.Sharing.{sharer, sharers, cutRow, lowered}
 use Rattle.rules.proofs.Tests.{cases, and-left}
-use Rattle.rules.proofs.Facts.{StakeOk, Rows}
+use Rattle.rules.specs.inner.Facts.{StakeOk, Rows}
 use Rattle.rules.proofs.Tables.{rows-low, find-past, find-here, find-below}
 use Rattle.promises.specs.Shares.{sharing}
 use Rattle.promises.proofs.Rows.{sharer-pool}
@@ -54,32 +55,27 @@ zero-is z e = let n = eqb-true (natAbs z) 0 e in omega (arith, whole, n, abs z)
 module _ (pool : ℕ) where
   -- the stake found for a row's account
   abbrev stakeIn : List StakeRow → StakeRow → ℤ
-  stakeIn l r = find stakeKey (noStake pool (r .account)) (keyOf pool (r .account)) l .stake
+  stakeIn l r = find stakeKey (noStake pool (accountNo (r .account))) (keyOf pool (r .account)) l .stake
 
-  abbrev Above : ℕ → List StakeRow → Type 0
-  Above low [] = Unit {0}
-  Above low (x ∷ rows) = (low < keyOf pool (x .account)) × Above low rows
+  abbrev place : StakeRow → ℕ
+  place r = keyOf pool (r .account)
 
-  above-low : (low high : ℕ) (rows : List StakeRow) → low ≤ high → Above high rows → Above low rows
-  above-low low high [] h a = tt
-  above-low low high (x ∷ rows) h a = (omega (arith, a .0), above-low low high rows h (a .1))
-
-  sharing-above : (low : ℕ) (rows : List StakeRow) → Rows stakeKey StakeOk low rows → Above low (sharing pool rows)
+  sharing-above : (low : ℕ) (rows : List StakeRow) → Rows stakeKey StakeOk low rows → Rows place Any low (sharing pool rows)
   unfolding sharing
   sharing-above low [] h = tt
-  sharing-above low (r ∷ rows) h = go (sharer pool r) refl (above-low low (stakeKey r) (sharing pool rows) (omega (arith, h .0)) (sharing-above (stakeKey r) rows (h .2)))
+  sharing-above low (r ∷ rows) h = go (sharer pool r) refl (sharing-above (stakeKey r) rows (h .2))
     where
-      go : (t : Bool) → sharer pool r ≡ t → Above low (sharing pool rows) → Above low (cond t (r ∷ sharing pool rows) (sharing pool rows))
-      go true e a = let s = sharer-pool pool r e in (omega (arith, h .0), a)
-      go false e a = a
+      go : (t : Bool) → sharer pool r ≡ t → Rows place Any (stakeKey r) (sharing pool rows) → Rows place Any low (cond t (r ∷ sharing pool rows) (sharing pool rows))
+      go true e a = let s = sharer-pool pool r e in (omega (arith, h .0), tt, rows-low place Any (place r) (stakeKey r) (sharing pool rows) (omega arith) a)
+      go false e a = rows-low place Any low (stakeKey r) (sharing pool rows) (omega (arith, h .0)) a
 
   past : (x : StakeRow) (l : List StakeRow) (r : StakeRow) → stakeKey x < keyOf pool (r .account) → stakeIn (x ∷ l) r ≡ stakeIn l r
-  past x l r h = ap (λ (z : StakeRow). z .stake) (find-past stakeKey (noStake pool (r .account)) (keyOf pool (r .account)) x l h)
+  past x l r h = ap (λ (z : StakeRow). z .stake) (find-past stakeKey (noStake pool (accountNo (r .account))) (keyOf pool (r .account)) x l h)
 
   -- two functions that agree on rows above a key
-  same-on : (low : ℕ) (f g : StakeRow → ℤ) (rows : List StakeRow) → Above low rows → ((r : StakeRow) → low < keyOf pool (r .account) → f r ≡ g r) → map f rows ≡ map g rows
+  same-on : (low : ℕ) (f g : StakeRow → ℤ) (rows : List StakeRow) → Rows place Any low rows → ((r : StakeRow) → low < place r → f r ≡ g r) → map f rows ≡ map g rows
   same-on low f g [] a e = refl
-  same-on low f g (x ∷ rows) a e = ap₂ {C = List ℤ} (λ (z : ℤ) (l : List ℤ). z ∷ l) (e x (a .0)) (same-on low f g rows (a .1) e)
+  same-on low f g (x ∷ rows) a e = ap₂ {C = List ℤ} (λ (z : ℤ) (l : List ℤ). z ∷ l) (e x (a .0)) (same-on low f g rows (rows-low place Any low (place x) rows (omega (arith, a .0)) (a .2)) e)
 
   none : (f : StakeRow → ℤ) (rows : List StakeRow) → 0 ≡ length rows → map f rows ≡ []
   none f [] e = refl
@@ -88,15 +84,15 @@ module _ (pool : ℕ) where
   -- one row that shares, kept or gone
   module _ (r : StakeRow) (c : ℤ) (rows lower : List StakeRow) (e : sharer pool r ≡ true) (w : Rows stakeKey StakeOk (stakeKey r) rows) (v : Rows stakeKey Any (stakeKey r) lower) where
     here : stakeIn (r ∷ rows) r ≡ r .stake
-    here = ap (λ (x : StakeRow). x .stake) (find-here stakeKey (noStake pool (r .account)) (keyOf pool (r .account)) r rows (ap (λ (p : ℕ). keyOf p (r .account)) (sharer-pool pool r e)))
+    here = ap (λ (x : StakeRow). x .stake) (find-here stakeKey (noStake pool (accountNo (r .account))) (keyOf pool (r .account)) r rows (ap (λ (p : ℕ). keyOf p (r .account)) (sharer-pool pool r e)))
 
     cut-here : stakeIn (keep stakeGone (cutRow r c) lower) r ≡ r .stake -ℤ c
     cut-here =
         let q = ap (λ (p : ℕ). keyOf p (r .account)) (sharer-pool pool r e) in
         cases (stakeGone (cutRow r c)) lower (cutRow r c ∷ lower) (λ (z : List StakeRow). stakeIn z r ≡ r .stake -ℤ c)
-        (λ g. ap (λ (x : StakeRow). x .stake) (find-below stakeKey Any (noStake pool (r .account)) (keyOf pool (r .account)) (stakeKey r) lower (omega (arith, q)) v)
+        (λ g. ap (λ (x : StakeRow). x .stake) (find-below stakeKey Any (noStake pool (accountNo (r .account))) (keyOf pool (r .account)) (stakeKey r) lower (omega (arith, q)) v)
         ∙ sym (zero-is (r .stake -ℤ c) (and-left _ _ g)))
-        (λ g. ap (λ (x : StakeRow). x .stake) (find-here stakeKey (noStake pool (r .account)) (keyOf pool (r .account)) (cutRow r c) lower q))
+        (λ g. ap (λ (x : StakeRow). x .stake) (find-here stakeKey (noStake pool (accountNo (r .account))) (keyOf pool (r .account)) (cutRow r c) lower q))
 
     loss-here : stakeIn (r ∷ rows) r -ℤ stakeIn (keep stakeGone (cutRow r c) lower) r ≡ c
     loss-here = rw (here, cut-here) (omega (arith, whole, dif (r .stake) c, dif (r .stake) (r .stake -ℤ c)))

@@ -3,7 +3,8 @@
 use mathlib.Core.Path.{_≡_}
 use Rattle.rules.specs.Books.{Books}
 use Rattle.rules.specs.Step.{step}
-use Rattle.rules.proofs.Refusals.{NothingMoved, refused-moves-nothing}
+use Rattle.rules.specs.Refusals.{NothingMoved}
+use Rattle.rules.proofs.Refusals.{refused-moves-nothing}
 use Rattle.promises.specs.Calls.{Call}
 
 pub refused-changes-nothing : (b : Books) (c : Call) → (step b c .answer .code ≡ 0 → ⊥) → NothingMoved b (step b c)

@@ -5,7 +5,7 @@ use Prim.Native.Nat.{ℕ, _+_, _-_, _*_, _/_, _≤_, _<_}
 use native.Mathlib.Nat.{div-mul-le-self, lt-div-mul-add, le-of-mul-le-mul-right, lt-of-mul-lt-mul-right}
 use native.Mathlib.Omega.{arith}
 use lib.IntN.{ℤ, pos, _-ℤ_}
-use lib.ListN.{length}
+use lib.ListN.{length, length-append}
 use Rattle.whole.specs.Whole.{minZ}
 use Rattle.whole.specs.Shares.{share}
 use Rattle.whole.proofs.Linear.{whole, lesser-is}
@@ -36,17 +36,9 @@ floor-high : (l t : ℕ) → 0 < t → (ns : List ℕ) → sumN ns * l + length 
 floor-high l t h [] = omega arith
 floor-high l t h (n ∷ ns) = omega (arith, floor-high l t h ns, lt-div-mul-add {a = n * l} {b = t} h)
 
-sum-snoc : (ns : List ℕ) (z : ℕ) → sumN (ns ++ (z ∷ [])) ≡ sumN ns + z
-sum-snoc [] z = omega arith
-sum-snoc (n ∷ ns) z = omega (arith, sum-snoc ns z)
-
 map-snoc : (f : ℕ → ℕ) (ns : List ℕ) (z : ℕ) → sumN (map f (ns ++ (z ∷ []))) ≡ sumN (map f ns) + f z
 map-snoc f [] z = omega arith
 map-snoc f (n ∷ ns) z = omega (arith, map-snoc f ns z)
-
-length-snoc : (ns : List ℕ) (z : ℕ) → length (ns ++ (z ∷ [])) ≡ length ns + 1
-length-snoc [] z = omega arith
-length-snoc (n ∷ ns) z = omega (arith, length-snoc ns z)
 
 -- ---- the walk
 
@@ -78,9 +70,9 @@ pub sentence : (loss : ℕ) (before : List ℕ) (last : ℕ) → (let balance = 
 sentence loss before last h k =
     let t = sumN (before ++ (last ∷ [])) in
     let low : sumN (map (part loss t) (before ++ (last ∷ []))) ≤ loss = le-of-mul-le-mul-right {k = t} (omega (arith, floor-low loss t (before ++ (last ∷ [])))) h in
-    let high : loss < sumN (map (part loss t) (before ++ (last ∷ []))) + length (before ++ (last ∷ [])) = lt-of-mul-lt-mul-right t (omega (arith, floor-high loss t h (before ++ (last ∷ [])), length-snoc before last)) in
+    let high : loss < sumN (map (part loss t) (before ++ (last ∷ []))) + length (before ++ (last ∷ [])) = lt-of-mul-lt-mul-right t (omega (arith, floor-high loss t h (before ++ (last ∷ [])), length-append before (last ∷ []))) in
     let a = map-snoc (part loss t) before last in
-    let b = length-snoc before last in
+    let b = length-append before (last ∷ []) in
     record {
       each = walk loss t before last loss (omega arith);
       together = omega arith;

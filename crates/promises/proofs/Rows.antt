@@ -1,10 +1,11 @@
--- What is found in the rows of a pool that a loss or a banking does not concern.
+-- Keys tell pools and numbers apart: what is found in the rows of a pool that a loss or a banking does not concern.
 use mathlib.Core.Path.{_≡_, refl, sym, _∙_}
-use mathlib.Core.Bool.{Bool, true, false, cond}
+use mathlib.Core.Bool.{Bool, true, false, cond, _&&_, true≢false}
 use mathlib.Core.List.{List, [], _∷_, map}
 use Prim.Native.Nat.{ℕ, _<_}
 use native.Mathlib.Omega.{arith}
-use borrow.Author.Tests.{eqb-true}
+use borrow.Author.Tests.{eqb-true, eq-eqb}
+use lib.Dec.{eqb}
 use lib.IntN.{ℤ}
 use Rattle.rules.specs.Limits.{flat, twoTo64}
 use Rattle.rules.specs.Table.{keyOf, find, keep}
@@ -12,9 +13,20 @@ use Rattle.rules.specs.Books.{Books, StakeRow, stakeKey, stakeGone, stakeRow, b
 use Rattle.rules.specs.Sharing.{sharer, cutRow, lowered}
 use Rattle.rules.specs.Settings.{bankedRow}
 use Rattle.rules.proofs.Tests.{cases, and-left}
-use Rattle.rules.proofs.Facts.{StakeOk, Rows}
+use Rattle.rules.specs.inner.Facts.{StakeOk, Rows}
 use Rattle.rules.proofs.Tables.{Order, less, same, more, order, find-past, find-here, find-none, find-below}
-use Rattle.promises.proofs.Keys.{other-pool}
+
+-- one key, one pool and one number
+key-one : (p q m n : ℕ) → m < twoTo64 → n < twoTo64 → keyOf p m ≡ keyOf q n → (p ≡ q) × (m ≡ n)
+key-one p q m n hm hn e = let s : p ≡ q = omega arith in (s, omega arith)
+
+other-pool : (p q m n : ℕ) → m < twoTo64 → n < twoTo64 → (p ≡ q → ⊥) → keyOf p m ≡ keyOf q n → ⊥
+other-pool p q m n hm hn d e = d (key-one p q m n hm hn e .0)
+
+pub other-row : (p q m n : ℕ) → m < twoTo64 → n < twoTo64 → (eqb p q && eqb m n) ≡ false → keyOf p m ≡ keyOf q n → ⊥
+other-row p q m n hm hn f e =
+    let k = key-one p q m n hm hn e in
+    true≢false (rw (eq-eqb p q (k .0), eq-eqb m n (k .1)) at f)
 
 -- a sharer is of the pool
 pub sharer-pool : (pool : ℕ) (r : StakeRow) → sharer pool r ≡ true → r .pool ≡ pool

@@ -11,13 +11,13 @@ use Rattle.rules.specs.Table.{each}
 use Rattle.rules.specs.Books.{StakeRow, Rooms, fresh}
 use Rattle.rules.specs.Answers.{freshCode}
 use Rattle.rules.specs.Step.{step}
-use Rattle.promises.specs.Calls.{Call}
+use Rattle.promises.specs.Calls.{Account, Call}
 use Rattle.promises.specs.Histories.{run}
 use Rattle.promises.specs.Shares.{takenBy, sharing, Fair}
 use Rattle.promises.proofs.Along.{fresh-formed, run-formed}
 use Rattle.promises.proofs.Fairly.{step-fair}
 
-pub shared-fairly : (admin : ℕ) (rooms : Rooms) → freshCode admin rooms ≡ 0 → (calls : List Call) (c : Call) (pool loss : ℕ) (others : List StakeRow) (last : StakeRow)
+pub shared-fairly : (admin : Account) (rooms : Rooms) → freshCode admin rooms ≡ 0 → (calls : List Call) (c : Call) (pool loss : ℕ) (others : List StakeRow) (last : StakeRow)
     → (let b = run (fresh admin rooms) calls in
     takenBy pool (c .operation) (step b c .answer) ≡ loss → 1 ≤ loss
     → sharing pool (b .stakes) ≡ others ++ (last ∷ []) → each (λ r. ltZ (pos 0) (r .stake)) (sharing pool (b .stakes)) ≡ true

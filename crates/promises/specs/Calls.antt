@@ -1,5 +1,6 @@
 -- The rules' declared types under one name.
 pub use Rattle.rules.specs.declared.Account.{Account}
+pub use Rattle.rules.specs.declared.Offer.{Offer}
 pub use Rattle.rules.specs.declared.StakeCall.{StakeCall}
 pub use Rattle.rules.specs.declared.PayCall.{PayCall}
 pub use Rattle.rules.specs.declared.ReserveCall.{ReserveCall}

@@ -1,9 +1,9 @@
 -- The terms of the promise on claims.
 use mathlib.Core.Path.{_≡_}
-use mathlib.Core.Bool.{Bool, true, false, _&&_, _||_}
+use mathlib.Core.Bool.{Bool, true, false}
 use mathlib.Core.List.{List, [], _∷_}
 use Prim.Native.Nat.{ℕ, _-_, _≤_}
-use lib.Dec.{eqb, leb}
+use lib.Dec.{leb}
 use lib.IntN.{pos}
 use lib.Signed.{_≤ℤ_}
 use Rattle.whole.specs.Whole.{dn}
@@ -14,7 +14,8 @@ use Rattle.promises.specs.Calls.{Account, ClaimCall, Operation, Claim, C
 use Rattle.rules.specs.Answers.{Outcome, outcome, refusal, done, noTransfer, transferOut, OverLimit}
 use Rattle.rules.specs.Payouts.{coverOf, afterLoss, afterClaim}
 use Rattle.rules.specs.Step.{malformed, step}
-use Rattle.promises.specs.Reach.{holds, reachOf}
+use Rattle.promises.specs.Reach.{holds}
+use Rattle.promises.specs.Roles.{roleOf}
 
 -- the pool's balance covers its unpaid reservations
 abbrev pub Covered : Books → ℕ → Type 0
@@ -22,7 +23,7 @@ Covered b pool = pos (unpaidOf b pool) ≤ℤ balanceOf b pool
 
 -- a withdrawal or a direct payout of the pool
 abbrev pub takesOut : ℕ → Operation → Bool
-takesOut pool o = (eqb (reachOf o .number) 2 || eqb (reachOf o .number) 3) && holds (reachOf o .balance) pool 0
+takesOut pool o = holds (roleOf o .takesOut) pool 0
 
 -- along the calls none of these takes effect: it leaves the books as they were
 abbrev pub Quiet : ℕ → Books → List Call → Type 0
@@ -37,7 +38,7 @@ claimBy now signer c = record { now = now; signer = signer; operation = Claim c 
 pub record Claiming (b : Books) (now : ℕ) (signer : Account) (c : ClaimCall) (n : ℕ) : Type 0 where
   pub formed : malformed (claimBy now signer c) ≡ false
   pub running : b .settings .paused ≡ false
-  pub by-caller : signer .0 ≡ b .settings .caller
+  pub by-caller : signer ≡ b .settings .caller
   pub amount : c .amount ≡ pos n
   pub some : 1 ≤ n
   pub most : n ≤ limit

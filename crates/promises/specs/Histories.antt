@@ -1,33 +1,34 @@
--- Histories: calls one after the other on a fresh set, and what they grant and pay an offer.
-use mathlib.Core.Bool.{cond, _&&_}
+-- Histories: calls one after the other on a fresh set, their answers, and what these grant and pay an offer.
+use mathlib.Core.Bool.{Bool, cond}
 use mathlib.Core.List.{List, [], _∷_}
 use Prim.Native.Nat.{ℕ, _+_}
-use lib.Dec.{eqb}
 use Rattle.whole.specs.Whole.{up}
 use Rattle.rules.specs.Books.{Books}
-use Rattle.promises.specs.Calls.{Operation, Call, Answer}
+use Rattle.promises.specs.Calls.{Offer, Operation, Call, Answer}
 use Rattle.rules.specs.Step.{step}
-use Rattle.promises.specs.Reach.{holds, reachOf}
+use Rattle.promises.specs.Reach.{holds}
+use Rattle.promises.specs.Roles.{roleOf}
 
 -- the books after the calls: "a history of calls begins from" a fresh set
 unfoldable pub run : Books → List Call → Books
 run b [] = b
 run b (c ∷ calls) = run (step b c .books) calls
 
--- what a call of this number, so answered, gave an offer of a pool: a reservation answers "(granted, 0)", a claim "paid, cover left
--- after", and a refused call 0
-abbrev pub givenBy : ℕ → ℕ → ℕ → Operation → Answer → ℕ
-givenBy number pool offer o a = cond (eqb (reachOf o .number) number && holds (reachOf o .offers) pool offer) (up (a .first)) 0
+-- and the calls' answers
+unfoldable pub answersOf : Books → List Call → List Answer
+answersOf b [] = []
+answersOf b (c ∷ calls) = step b c .answer ∷ answersOf (step b c .books) calls
 
--- and what the calls of a history gave it together
-unfoldable pub givenIn : ℕ → ℕ → ℕ → Books → List Call → ℕ
-givenIn number pool offer b [] = 0
-givenIn number pool offer b (c ∷ calls) = givenBy number pool offer (c .operation) (step b c .answer) + givenIn number pool offer (step b c .books) calls
+-- the first numbers answered to those of the calls that `counts` tells, together
+unfoldable pub firstsOf : (Operation → Bool) → List Call → List Answer → ℕ
+firstsOf counts [] answers = 0
+firstsOf counts (c ∷ calls) [] = 0
+firstsOf counts (c ∷ calls) (a ∷ answers) = cond (counts (c .operation)) (up (a .first)) 0 + firstsOf counts calls answers
 
--- what its reservations granted an offer
-abbrev pub grantedIn : ℕ → ℕ → Books → List Call → ℕ
-grantedIn pool offer b calls = givenIn 4 pool offer b calls
+-- what its reservations granted an offer of a pool: one answers "(granted, 0)", and a refused one 0
+abbrev pub grantedIn : ℕ → Offer → List Call → List Answer → ℕ
+grantedIn pool offer = firstsOf (λ o. holds (roleOf o .grants) pool (offer .0))
 
--- what its claims paid the offer
-abbrev pub paidIn : ℕ → ℕ → Books → List Call → ℕ
-paidIn pool offer b calls = givenIn 5 pool offer b calls
+-- what its claims paid the offer: one answers "paid, cover left after", and a refused one 0
+abbrev pub paidIn : ℕ → Offer → List Call → List Answer → ℕ
+paidIn pool offer = firstsOf (λ o. holds (roleOf o .claims) pool (offer .0))

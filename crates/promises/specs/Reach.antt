@@ -5,7 +5,7 @@ use Prim.Native.Nat.{ℕ}
 use lib.Dec.{eqb}
 use Rattle.rules.specs.Limits.{flat, isNumber}
 use Rattle.rules.specs.Books.{Books, stakeAt, offerAt, balanceOf, unpaidOf}
-use Rattle.promises.specs.Calls.{Operation, Stake, Withdraw, Pay, Reserve, Claim, Rate, Pause, Unpause, PayoutCaller, Unknown}
+use Rattle.promises.specs.Calls.{Account, Offer, Operation, Stake, Withdraw, Pay, Reserve, Claim, Rate, Pause, Unpause, PayoutCaller, Unknown}
 
 -- of a table or of the pools' figures: nothing, one number's in a pool, or all of a pool's
 pub data Part : Type 0 where
@@ -19,9 +19,8 @@ holds nothing p n = false
 holds (rowOf q m) p n = eqb q p && eqb m n
 holds (allOf q) p n = eqb q p
 
--- number: the operation's in the log, "1 stake, 2 withdraw", "3 pay", "4 reserve; 5 claim", "6 rate", "7 pause; 8 unpause; 9 payout caller"
+-- what an operation may change, table by table and figure by figure
 pub record Reach : Type 0 where
-  pub number : ℕ
   pub stakes : Part
   pub offers : Part
   pub balance : Part
@@ -29,26 +28,26 @@ pub record Reach : Type 0 where
   pub settings : Bool
 
 -- its maker
-abbrev pub reach : ℕ → Part → Part → Part → Part → Bool → Reach
-reach number stakes offers balance unpaid settings = record { number = number; stakes = stakes; offers = offers; balance = balance; unpaid = unpaid; settings = settings }
+abbrev pub reach : Part → Part → Part → Part → Bool → Reach
+reach stakes offers balance unpaid settings = record { stakes = stakes; offers = offers; balance = balance; unpaid = unpaid; settings = settings }
 
--- columns: number, stake rows, offer rows, balance, unpaid sum, settings
+-- columns: stake rows, offer rows, balance, unpaid sum, settings
 abbrev pub reachOf : Operation → Reach
-reachOf (Stake c) = reach 1 (rowOf (c .pool) (c .staker .0)) nothing (allOf (c .pool)) nothing false
-reachOf (Withdraw c) = reach 2 (rowOf (c .pool) (c .staker .0)) nothing (allOf (c .pool)) nothing false
-reachOf (Pay c) = reach 3 (allOf (c .pool)) nothing (allOf (c .pool)) nothing false
-reachOf (Reserve c) = reach 4 nothing (rowOf (c .pool) (c .offer .0)) nothing (allOf (c .pool)) false
-reachOf (Claim c) = reach 5 (allOf (c .pool)) (rowOf (c .pool) (c .offer .0)) (allOf (c .pool)) (allOf (c .pool)) false
-reachOf (Rate c) = reach 6 (allOf flat) nothing nothing nothing true
-reachOf Pause = reach 7 nothing nothing nothing nothing true
-reachOf Unpause = reach 8 nothing nothing nothing nothing true
-reachOf (PayoutCaller a) = reach 9 nothing nothing nothing nothing true
-reachOf Unknown = reach 0 nothing nothing nothing nothing false
+reachOf (Stake c) = reach (rowOf (c .pool) (c .staker .0)) nothing (allOf (c .pool)) nothing false
+reachOf (Withdraw c) = reach (rowOf (c .pool) (c .staker .0)) nothing (allOf (c .pool)) nothing false
+reachOf (Pay c) = reach (allOf (c .pool)) nothing (allOf (c .pool)) nothing false
+reachOf (Reserve c) = reach nothing (rowOf (c .pool) (c .offer .0)) nothing (allOf (c .pool)) false
+reachOf (Claim c) = reach (allOf (c .pool)) (rowOf (c .pool) (c .offer .0)) (allOf (c .pool)) (allOf (c .pool)) false
+reachOf (Rate c) = reach (allOf flat) nothing nothing nothing true
+reachOf Pause = reach nothing nothing nothing nothing true
+reachOf Unpause = reach nothing nothing nothing nothing true
+reachOf (PayoutCaller a) = reach nothing nothing nothing nothing true
+reachOf Unknown = reach nothing nothing nothing nothing false
 
 -- two books agree in all that lies outside a reach
 pub record Alone (r : Reach) (b after : Books) : Type 0 where
-  pub stakes : (pool account : ℕ) → isNumber account ≡ true → holds (r .stakes) pool account ≡ false → stakeAt after pool account ≡ stakeAt b pool account
-  pub offers : (pool offer : ℕ) → isNumber offer ≡ true → holds (r .offers) pool offer ≡ false → offerAt after pool offer ≡ offerAt b pool offer
+  pub stakes : (pool : ℕ) (account : Account) → isNumber (account .0) ≡ true → holds (r .stakes) pool (account .0) ≡ false → stakeAt after pool account ≡ stakeAt b pool account
+  pub offers : (pool : ℕ) (offer : Offer) → isNumber (offer .0) ≡ true → holds (r .offers) pool (offer .0) ≡ false → offerAt after pool offer ≡ offerAt b pool offer
   pub balance : (pool : ℕ) → holds (r .balance) pool 0 ≡ false → balanceOf after pool ≡ balanceOf b pool
   pub unpaid : (pool : ℕ) → holds (r .unpaid) pool 0 ≡ false → unpaidOf after pool ≡ unpaidOf b pool
   pub settings : r .settings ≡ false → after .settings ≡ b .settings

@@ -1,20 +1,21 @@
 -- The terms of the promise on shares.
 use mathlib.Core.Path.{_≡_}
-use mathlib.Core.Bool.{cond, _&&_, _||_}
+use mathlib.Core.Bool.{cond}
 use mathlib.Core.List.{List, [], _∷_, map}
 use Prim.Native.Nat.{ℕ, _+_, _*_, _/_, _≤_}
-use lib.Dec.{eqb}
 use lib.IntN.{ℤ, pos, _-ℤ_}
 use lib.ListN.{length}
 use Rattle.whole.specs.Whole.{up}
 use Rattle.rules.specs.Books.{Books, StakeRow, stakeAt, balanceOf}
+use Rattle.rules.specs.Calls.{accountNo}
 use Rattle.rules.specs.Sharing.{sharer}
 use Rattle.promises.specs.Calls.{Operation, Answer}
-use Rattle.promises.specs.Reach.{holds, reachOf}
+use Rattle.promises.specs.Reach.{holds}
+use Rattle.promises.specs.Roles.{roleOf}
 
 -- what a call, so answered, took from the stakes of the pool: a direct payout or a claim answers first what it paid
 abbrev pub takenBy : ℕ → Operation → Answer → ℕ
-takenBy pool o a = cond ((eqb (reachOf o .number) 3 || eqb (reachOf o .number) 5) && holds (reachOf o .balance) pool 0) (up (a .first)) 0
+takenBy pool o a = cond (holds (roleOf o .shares) pool 0) (up (a .first)) 0
 
 -- the pool's rows with a non-zero stake, in row order
 unfoldable pub sharing : ℕ → List StakeRow → List StakeRow
@@ -23,7 +24,7 @@ sharing pool (r ∷ rows) = cond (sharer pool r) (r ∷ sharing pool rows) (shar
 
 -- what the row's account lost between two books
 abbrev pub lost : ℕ → Books → Books → StakeRow → ℤ
-lost pool b after r = stakeAt b pool (r .account) .stake -ℤ stakeAt after pool (r .account) .stake
+lost pool b after r = stakeAt b pool (accountNo (r .account)) .stake -ℤ stakeAt after pool (accountNo (r .account)) .stake
 
 -- the row's exact share of a loss, rounded down
 abbrev pub rounded : ℕ → ℕ → StakeRow → ℕ

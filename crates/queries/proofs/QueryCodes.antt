@@ -11,6 +11,7 @@ use Rattle.rules.specs.Books.{Books, stakeAt, bankedAt, offerAt, balanceOf, unp
 use Rattle.rules.specs.Sharing.{sharer}
 use Rattle.rules.specs.declared.Answer.{Answer}
 use Rattle.rules.specs.Answers.{refusal, Malformed, BadTables, OverLimit}
+use Rattle.rules.specs.Calls.{accountNo, offerNo}
 use Rattle.rules.specs.Queries.{told, asked, getStake, accruedYield, getPool, getStakersCount, getOffer}
 use Rattle.books.specs.Words.{Tables, goodTables}
 use Rattle.queries.specs.Queries.{queryWords}
@@ -28,14 +29,14 @@ module _ (b : Books) (pool number time : ℕ) where
   answer-coded : (kind : ℕ) → answerOf b kind pool number time .code ≤ 11
   unfolding answerOf getStake accruedYield getPool getStakersCount getOffer
   answer-coded zero = omega arith
-  answer-coded (suc zero) = told-coded (isPool pool ∷ isNumber number ∷ []) (stakeAt b pool number .stake) (pos 0)
+  answer-coded (suc zero) = told-coded (isPool pool ∷ isNumber number ∷ []) (stakeAt b pool (accountNo number) .stake) (pos 0)
   answer-coded (suc (suc zero)) =
-      let sum = bankedAt b pool time (stakeAt b pool number) in
+      let sum = bankedAt b pool time (stakeAt b pool (accountNo number)) in
       one-coded (all (leb time lastTime ∷ isPool pool ∷ isNumber number ∷ [])) _ (refusal Malformed) (one-coded (ltb limit sum) (refusal OverLimit) (told (pos sum) (pos 0)) (omega arith) (omega arith)) (omega arith)
   answer-coded (suc (suc (suc zero))) = told-coded (isPool pool ∷ []) (balanceOf b pool) (pos (unpaidOf b pool))
   answer-coded (suc (suc (suc (suc zero)))) = told-coded (isPool pool ∷ []) (pos (count (sharer pool) (b .stakes))) (pos 0)
   answer-coded (suc (suc (suc (suc (suc zero))))) =
-      let r = offerAt b pool number in
+      let r = offerAt b pool (offerNo number) in
       told-coded (isPool pool ∷ isNumber number ∷ []) (pos (r .reserved)) (pos (r .paid))
   answer-coded (suc (suc (suc (suc (suc (suc kind)))))) = omega arith
 

@@ -1,49 +1,56 @@
 -- The order of a query's answers: its fields, then the tables, then what the rules answer.
 use mathlib.Core.Path.{_≡_, refl}
-use mathlib.Core.Bool.{Bool, true, false, cond}
+use mathlib.Core.Bool.{Bool, true, false, cond, _&&_}
 use mathlib.Core.List.{List, _∷_}
 use Prim.Native.Nat.{ℕ}
-use lib.Dec.{eqb, ltb}
+use native.Mathlib.Omega.{arith}
+use lib.Dec.{eqb}
 use lib.IntN.{pos}
 use Rattle.rules.specs.declared.Answer.{Answer}
-use Rattle.rules.specs.Limits.{limit}
 use Rattle.rules.specs.Table.{each, all}
-use Rattle.rules.specs.Books.{Books, stakeAt, bankedAt}
-use Rattle.rules.specs.Answers.{refusal, Malformed, BadTables}
-use Rattle.rules.specs.Queries.{asked}
+use Rattle.rules.specs.Answers.{refusal, Malformed, BadTables, OverLimit}
+use Rattle.rules.specs.Queries.{asked, told}
 use Rattle.books.specs.Words.{Tables, goodTables}
-use Rattle.queries.specs.Queries.{queryWords, accrued}
+use Rattle.queries.specs.inner.Gate.{gateCode}
+use Rattle.queries.specs.Queries.{queryWords}
 
-module _ (t : Tables) (fields : List Bool) (a : Answer) where
-  pub asked-malformed : all fields ≡ false → refusal Malformed ≡ queryWords t (asked fields a)
+-- a question that is answered
+pub record Open (t : Tables) (fields : Bool) : Type 0 where
+  pub met : fields ≡ true
+  pub good : goodTables t ≡ true
+
+pub open-read : (t : Tables) (fields : Bool) → gateCode t fields ≡ 0 → Open t fields
+open-read t false e = absurd (omega arith)
+open-read t true e = go (goodTables t) refl e
+  where
+    go : (g : Bool) → goodTables t ≡ g → cond g 0 BadTables ≡ 0 → Open t true
+    go true f e = record { met = refl; good = f }
+    go false f e = absurd (omega arith)
+
+-- an answer that is not itself Malformed
+module _ (t : Tables) (a : Answer) (n : eqb (a .code) Malformed ≡ false) where
+  pub gate-answers : (fields : List Bool) → Open t (all fields) → a ≡ queryWords t (asked fields a)
   unfolding queryWords
-  asked-malformed e = rw e
+  gate-answers fields o = rw (o .met, n, o .good)
 
-  module _ (e : all fields ≡ true) (n : eqb (a .code) Malformed ≡ false) where
-    pub asked-bad : goodTables t ≡ false → refusal BadTables ≡ queryWords t (asked fields a)
-    unfolding queryWords
-    asked-bad g = rw (e, n, g)
-
-    pub asked-good : goodTables t ≡ true → a ≡ queryWords t (asked fields a)
-    unfolding queryWords
-    asked-good g = rw (e, n, g)
+  pub gate-refuses : (fields : List Bool) → (gateCode t (all fields) ≡ 0 → ⊥) → refusal (gateCode t (all fields)) ≡ queryWords t (asked fields a)
+  unfolding queryWords
+  gate-refuses fields = go (all fields) (goodTables t)
+    where
+      go : (f g : Bool) → (cond f (cond g 0 BadTables) Malformed ≡ 0 → ⊥) → refusal (cond f (cond g 0 BadTables) Malformed) ≡ cond (eqb ((cond f a (refusal Malformed)) .code) Malformed) (cond f a (refusal Malformed)) (cond g (cond f a (refusal Malformed)) (refusal BadTables))
+      go false g h = refl
+      go true true h = absurd (h refl)
+      go true false h = rw n
 
 -- ---- fields
 
 -- one more in front
-pub with-first : (x : Bool) (fields : List Bool) → x ≡ true → all (x ∷ fields) ≡ all fields
+pub with-first : (x : Bool) (fields : List Bool) → (x && all fields) ≡ all (x ∷ fields)
 unfolding each
-with-first x fields e = rw e
-
-pub not-first : (x : Bool) (fields : List Bool) → x ≡ false → all (x ∷ fields) ≡ false
-unfolding each
-not-first x fields e = rw e
+with-first true fields = refl
+with-first false fields = refl
 
 -- an accrual is never told as malformed
-pub accrued-code : (b : Books) (now pool account : ℕ) → eqb (accrued b now pool account .code) Malformed ≡ false
-unfolding accrued
-accrued-code b now pool account = go (ltb limit (bankedAt b pool now (stakeAt b pool account))) (bankedAt b pool now (stakeAt b pool account))
-  where
-    go : (v : Bool) (n : ℕ) → eqb ((cond v (refusal 10) (record { code = 0; first = pos n; second = pos 0; one = record { kind = 0; account = record { 0 = 0 }; amount = 0 }; two = record { kind = 0; account = record { 0 = 0 }; amount = 0 } })) .code) Malformed ≡ false
-    go true n = refl
-    go false n = refl
+pub accrued-code : (over : Bool) (n : ℕ) → eqb ((cond over (refusal OverLimit) (told (pos n) (pos 0))) .code) Malformed ≡ false
+accrued-code true n = refl
+accrued-code false n = refl

@@ -5,6 +5,7 @@ use Prim.Native.Nat.{ℕ}
 use lib.Dec.{eqb}
 use lib.ListN.{getD}
 use Rattle.rules.specs.Books.{Books}
+use Rattle.rules.specs.Calls.{accountNo, offerNo}
 use Rattle.rules.specs.declared.Answer.{Answer}
 use Rattle.rules.specs.Answers.{refusal, Malformed}
 use Rattle.rules.specs.Queries.{getStake, accruedYield, getPool, getStakersCount, getOffer}
@@ -19,11 +20,11 @@ unfoldable pub answerOf : Books → ℕ → ℕ → ℕ → ℕ → Answer
 answerOf b kind pool number time =
     getD
     (refusal Malformed
-    ∷ getStake b pool number
-    ∷ accruedYield b time pool number
+    ∷ getStake b pool (accountNo number)
+    ∷ accruedYield b time pool (accountNo number)
     ∷ getPool b pool
     ∷ getStakersCount b pool
-    ∷ getOffer b pool number
+    ∷ getOffer b pool (offerNo number)
     ∷ [])
     kind
     (refusal Malformed)

@@ -1,3 +1,4 @@
 -- The definitions that the contracts of this floor cite.
 pub mod Queries
 pub mod Asking
+pub mod inner

@@ -15,20 +15,19 @@ use rules::is_time;
 use rules::no_transfer;
 use rules::refuse;
 ghost use mathlib.Core.Path.{_≡_};
-ghost use mathlib.Core.Bool.{true, cond};
 ghost use Prim.Native.Nat.{_*_, _≤_, _<_, _^_};
-ghost use lib.Dec.{ltb};
 ghost use lib.IntN.{pos};
 ghost use lib.ListN.{length};
 ghost use mir.Syntax.{w64};
 ghost use mir.Val.{toZ};
-ghost use Rattle.rules.specs.Limits.{lastTime};
 ghost use Rattle.rules.specs.Table.{count};
 ghost use Rattle.rules.specs.Sharing.{sharer};
 ghost use Rattle.rules.specs.Queries.{told, getStake, accruedYield, getPool, getStakersCount, getOffer};
+ghost use Rattle.books.specs.Layout.{stakeWidth};
 ghost use Rattle.books.specs.Tables.{rowsFrom};
-ghost use Rattle.books.specs.Words.{tables, booksOf, goodTables, stakeRowAt};
-ghost use Rattle.queries.specs.Queries.{queryWords, accrued};
+ghost use Rattle.books.specs.Words.{tables, booksOf, stakeRowAt};
+ghost use Rattle.queries.specs.inner.Gate.{gateCode};
+ghost use Rattle.queries.specs.Queries.{queryWords};
 
 // Two numbers and no transfer. `first` is a signed word.
 fn tell(first: u64, second: u64) -> Answer
@@ -47,6 +46,19 @@ fn tell(first: u64, second: u64) -> Answer
     }
 }
 
+// The code that a question is refused with before it is answered: its fields do not meet their needs, or the tables are not well formed; else 0.
+fn gate(stakes: &[u64], offers: &[u64], books: &[u64], fields: bool) -> u64
+    ensures { λ r. ⌜ r ≡ gateCode (tables (now (stakes .entry)) (now (offers .entry)) (now (books .entry))) fields ⌝ }
+{
+    if !fields {
+        return MALFORMED;
+    }
+    if !books::tables_well_formed(stakes, offers, books) {
+        return BAD_TABLES;
+    }
+    0
+}
+
 // An account's stake in a pool.
 pub fn get_stake(
     stakes: &[u64],
@@ -55,39 +67,15 @@ pub fn get_stake(
     pool: u64,
     account: Account,
 ) -> Answer
-    ensures { λ r. ⌜ r ≡ queryWords (tables (now (stakes .entry)) (now (offers .entry)) (now (books .entry))) (getStake (booksOf (tables (now (stakes .entry)) (now (offers .entry)) (now (books .entry)))) pool (account .0)) ⌝ }
+    ensures { λ r. ⌜ r ≡ queryWords (tables (now (stakes .entry)) (now (offers .entry)) (now (books .entry))) (getStake (booksOf (tables (now (stakes .entry)) (now (offers .entry)) (now (books .entry)))) pool account) ⌝ }
 {
-    if !is_key(pool, account.0) {
-        return refuse(MALFORMED);
-    }
-    if !books::tables_well_formed(stakes, offers, books) {
-        return refuse(BAD_TABLES);
+    let code = gate(stakes, offers, books, is_key(pool, account.0));
+    if code != 0 {
+        return refuse(code);
     }
     let used = books::used_stakes(stakes);
     let row = books::read_stake(stakes, used, pool, account);
     tell(row.stake, 0)
-}
-
-// What an account's accrual in a pool would be if it were banked at a time.
-fn accrued_at(
-    stakes: &[u64],
-    offers: &[u64],
-    books: &[u64],
-    time: u64,
-    pool: u64,
-    account: Account,
-) -> Answer
-    requires { ⌜ goodTables (tables (now stakes) (now offers) (now books)) ≡ true ⌝ }
-    requires { ⌜ (time ≤ lastTime) × (pool ≤ 3) ⌝ }
-    ensures { λ r. ⌜ r ≡ accrued (booksOf (tables (now (stakes .entry)) (now (offers .entry)) (now (books .entry)))) time pool (account .0) ⌝ }
-{
-    let used = books::used_stakes(stakes);
-    let row = books::read_stake(stakes, used, pool, account);
-    let rate = rules::yield_rate(books::rate(books), pool);
-    match rules::bank_accrued_yield(rate, time, row.stake, row.since, row.accrual) {
-        Banked::To(sum) => tell(sum, 0),
-        Banked::OverLimit => refuse(OVER_LIMIT),
-    }
 }
 
 // An account's accrual in a pool: banked, and running at a time.
@@ -99,29 +87,32 @@ pub fn accrued_yield(
     pool: u64,
     account: Account,
 ) -> Answer
-    ensures { λ r. ⌜ r ≡ queryWords (tables (now (stakes .entry)) (now (offers .entry)) (now (books .entry))) (accruedYield (booksOf (tables (now (stakes .entry)) (now (offers .entry)) (now (books .entry)))) time pool (account .0)) ⌝ }
+    ensures { λ r. ⌜ r ≡ queryWords (tables (now (stakes .entry)) (now (offers .entry)) (now (books .entry))) (accruedYield (booksOf (tables (now (stakes .entry)) (now (offers .entry)) (now (books .entry)))) time pool account) ⌝ }
 {
-    if !is_time(time) {
-        return refuse(MALFORMED);
+    let code = gate(
+        stakes,
+        offers,
+        books,
+        is_time(time) & is_key(pool, account.0),
+    );
+    if code != 0 {
+        return refuse(code);
     }
-    if !is_key(pool, account.0) {
-        return refuse(MALFORMED);
+    let used = books::used_stakes(stakes);
+    let row = books::read_stake(stakes, used, pool, account);
+    match books::banked_of(books, row, pool, time) {
+        Banked::To(sum) => tell(sum, 0),
+        Banked::OverLimit => refuse(OVER_LIMIT),
     }
-    if !books::tables_well_formed(stakes, offers, books) {
-        return refuse(BAD_TABLES);
-    }
-    accrued_at(stakes, offers, books, time, pool, account)
 }
 
 // A pool's balance and its unpaid reserved sum.
 pub fn get_pool(stakes: &[u64], offers: &[u64], books: &[u64], pool: u64) -> Answer
     ensures { λ r. ⌜ r ≡ queryWords (tables (now (stakes .entry)) (now (offers .entry)) (now (books .entry))) (getPool (booksOf (tables (now (stakes .entry)) (now (offers .entry)) (now (books .entry)))) pool) ⌝ }
 {
-    if !is_pool(pool) {
-        return refuse(MALFORMED);
-    }
-    if !books::tables_well_formed(stakes, offers, books) {
-        return refuse(BAD_TABLES);
+    let code = gate(stakes, offers, books, is_pool(pool));
+    if code != 0 {
+        return refuse(code);
     }
     let balance = books::balance(books, pool);
     let unpaid = books::unpaid(books, pool);
@@ -130,7 +121,7 @@ pub fn get_pool(stakes: &[u64], offers: &[u64], books: &[u64], pool: u64) -> Ans
 
 // How many of the used rows are of the pool, with a stake.
 fn sharers_among(stakes: &[u64], used: usize, pool: u64) -> u64
-    requires { ⌜ used * 5 ≤ length (now stakes) ⌝ }
+    requires { ⌜ used * stakeWidth ≤ length (now stakes) ⌝ }
     ensures { λ r. ⌜ r ≡ count (sharer pool) (rowsFrom stakeRowAt (now (stakes .entry)) 0 used) ⌝ }
 {
     let mut n: u64 = 0;
@@ -148,11 +139,9 @@ fn sharers_among(stakes: &[u64], used: usize, pool: u64) -> u64
 pub fn get_stakers_count(stakes: &[u64], offers: &[u64], books: &[u64], pool: u64) -> Answer
     ensures { λ r. ⌜ r ≡ queryWords (tables (now (stakes .entry)) (now (offers .entry)) (now (books .entry))) (getStakersCount (booksOf (tables (now (stakes .entry)) (now (offers .entry)) (now (books .entry)))) pool) ⌝ }
 {
-    if !is_pool(pool) {
-        return refuse(MALFORMED);
-    }
-    if !books::tables_well_formed(stakes, offers, books) {
-        return refuse(BAD_TABLES);
+    let code = gate(stakes, offers, books, is_pool(pool));
+    if code != 0 {
+        return refuse(code);
     }
     let used = books::used_stakes(stakes);
     let n = sharers_among(stakes, used, pool);
@@ -161,13 +150,11 @@ pub fn get_stakers_count(stakes: &[u64], offers: &[u64], books: &[u64], pool: u6
 
 // What is reserved for an offer in a pool, and what of it is paid.
 pub fn get_offer(stakes: &[u64], offers: &[u64], books: &[u64], pool: u64, offer: Offer) -> Answer
-    ensures { λ r. ⌜ r ≡ queryWords (tables (now (stakes .entry)) (now (offers .entry)) (now (books .entry))) (getOffer (booksOf (tables (now (stakes .entry)) (now (offers .entry)) (now (books .entry)))) pool (offer .0)) ⌝ }
+    ensures { λ r. ⌜ r ≡ queryWords (tables (now (stakes .entry)) (now (offers .entry)) (now (books .entry))) (getOffer (booksOf (tables (now (stakes .entry)) (now (offers .entry)) (now (books .entry)))) pool offer) ⌝ }
 {
-    if !is_key(pool, offer.0) {
-        return refuse(MALFORMED);
-    }
-    if !books::tables_well_formed(stakes, offers, books) {
-        return refuse(BAD_TABLES);
+    let code = gate(stakes, offers, books, is_key(pool, offer.0));
+    if code != 0 {
+        return refuse(code);
     }
     let used = books::used_offers(offers);
     let row = books::read_offer(offers, used, pool, offer);

@@ -1,4 +1,4 @@
--- `Reading`: bytes read behind the first ones. `Rest`: those left of a part that ran. `Rooms`: the program's tables.
+-- `Reading`: bytes read behind the first ones. `Logs`: the log that a run has come through. `Rooms`: the program's tables.
 pub mod Reading
-pub mod Rest
+pub mod Logs
 pub mod Rooms

@@ -7,9 +7,9 @@ use Rattle.replay.specs.declared.input.Input.{Input}
 use Rattle.replay.specs.declared.input.Input.the-variants.{Has, Failed}
 
 -- at most so many bytes
-abbrev pub Within : ℕ → Input → Type 0
-Within room (Has n) = n ≤ room
-Within room Failed = Unit {0}
+abbrev pub AtMost : ℕ → Input → Type 0
+AtMost room (Has n) = n ≤ room
+AtMost room Failed = Unit {0}
 
 -- `have` bytes were there and stay as they were, and n are there now
 pub record Grown (before : List ℕ) (have : ℕ) (after : List ℕ) (n : ℕ) : Type 0 where

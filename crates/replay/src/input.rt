@@ -2,7 +2,7 @@
 use libc::STDIN_FILENO;
 ghost use Prim.Native.Nat.{_≤_};
 ghost use lib.ListN.{length};
-ghost use Rattle.replay.specs.Buffers.{Within, Filled};
+ghost use Rattle.replay.specs.Buffers.{AtMost, Filled};
 
 // So many bytes are there, or a read failed.
 pub enum Input {
@@ -12,7 +12,7 @@ pub enum Input {
 
 // One read, or what it says of why it failed; 0 bytes at the end of the input.
 fn read_some(room: &mut [u8]) -> Input
-    ensures { λ r. ⌜ Within (length (now (room .entry))) r ⌝ }
+    ensures { λ r. ⌜ AtMost (length (now (room .entry))) r ⌝ }
 {
     let got = libc::read(STDIN_FILENO, room);
     if got < 0 {

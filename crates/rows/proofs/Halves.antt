@@ -9,9 +9,10 @@ use native.Mathlib.Omega.{arith}
 use lib.Dec.{ltb, eqb}
 use lib.ListN.{length}
 use borrow.Author.Tests.{ltb-true, ltb-false, eqb-true, eqb-false}
-use Rattle.rows.specs.Rows.{word, keyAt, Sorted, Used, Packed}
-use Rattle.rows.specs.Found.{placeOf}
-use Rattle.rows.specs.Halves.{halfOf}
+use Rattle.rows.specs.Rows.{numberWord, word}
+use Rattle.rows.specs.inner.Order.{keyAt, Sorted, Used, Packed}
+use Rattle.rows.specs.inner.Found.{placeOf}
+use Rattle.rows.specs.inner.Halves.{halfOf}
 use Rattle.rows.specs.declared.search.Span.{Span}
 use Rattle.rows.specs.declared.Place.the-variants.{At, Gap}
 use Rattle.rows.proofs.Order.{le-cases, lt-or-le, place-gap, place-at}
@@ -79,28 +80,28 @@ module _ (s : List ℕ) (w n k : ℕ) where
 -- a span that holds the number of used rows
 pub record Counts (s : List ℕ) (w : ℕ) (at : Span) : Type 0 where
   pub fits : at .low + at .rows ≤ length s / w
-  pub used : (i : ℕ) → i < at .low → word s w i 1 ≢ 0
-  pub stop : at .low + at .rows < length s / w → word s w (at .low + at .rows) 1 ≡ 0
+  pub used : (i : ℕ) → i < at .low → word s w i numberWord ≢ 0
+  pub stop : at .low + at .rows < length s / w → word s w (at .low + at .rows) numberWord ≡ 0
 
 module _ (s : List ℕ) (w : ℕ) where
   pub counts-start : Counts s w (record { low = 0; rows = length s / w; found = false })
   counts-start = record { fits = omega arith; used = λ i l. absurd (omega arith); stop = λ l. absurd (omega arith) }
 
   module _ (p : Packed s w) (at : Span) (m : ℕ) (e : m ≡ at .low + at .rows / 2) (h : 0 < at .rows) (b : Counts s w at) where
-    counted : (t f : Bool) → eqb (word s w m 1) 0 ≡ t → Counts s w (halfOf at (not t) f)
+    counted : (t f : Bool) → eqb (word s w m numberWord) 0 ≡ t → Counts s w (halfOf at (not t) f)
     counted true f g = record {
       fits = omega arith;
       used = b .used;
-      stop = λ l. subst (λ (i : ℕ). word s w i 1 ≡ 0) e (eqb-true (word s w m 1) 0 g);
+      stop = λ l. subst (λ (i : ℕ). word s w i numberWord ≡ 0) e (eqb-true (word s w m numberWord) 0 g);
     }
     counted false f g = record {
       fits = omega arith;
-      used = λ i l. p .used i (⊎-elim (λ q. omega arith) (λ q. absurd (eqb-false (word s w m 1) 0 g (p .unused m q (omega arith)))) (lt-or-le m (p .rows)));
-      stop = λ l. subst (λ (i : ℕ). word s w i 1 ≡ 0) (omega arith) (b .stop (omega arith));
+      used = λ i l. p .used i (⊎-elim (λ q. omega arith) (λ q. absurd (eqb-false (word s w m numberWord) 0 g (p .unused m q (omega arith)))) (lt-or-le m (p .rows)));
+      stop = λ l. subst (λ (i : ℕ). word s w i numberWord ≡ 0) (omega arith) (b .stop (omega arith));
     }
 
-    pub counts-half : (f : Bool) → Counts s w (halfOf at (not (eqb (word s w m 1) 0)) f)
-    counts-half f = counted (eqb (word s w m 1) 0) f refl
+    pub counts-half : (f : Bool) → Counts s w (halfOf at (not (eqb (word s w m numberWord) 0)) f)
+    counts-half f = counted (eqb (word s w m numberWord) 0) f refl
 
   pub counts-used : (at : Span) → at .rows ≡ 0 → Counts s w at → Used s w (at .low)
   counts-used at z b =
@@ -109,5 +110,5 @@ module _ (s : List ℕ) (w : ℕ) where
       record {
         fits = omega (arith, mul-le-mul-right w l, div-mul-le-self (length s) w);
         used = b .used;
-        stop = λ q. subst (λ (i : ℕ). word s w i 1 ≡ 0) e (b .stop (omega arith));
+        stop = λ q. subst (λ (i : ℕ). word s w i numberWord ≡ 0) e (b .stop (omega arith));
       }

@@ -2,5 +2,4 @@ pub mod Order
 pub mod Halves
 pub mod Words
 pub mod Table
-pub mod Chunks
 pub mod Zeros

@@ -3,13 +3,14 @@ use mathlib.Core.Path.{_≡_, refl, sym, ap, _∙_, subst, subst⁻¹}
 use mathlib.Core.Bool.{Bool, true, false, _&&_}
 use mathlib.Core.Logic.{_⊎_, inl, inr, ⊎-elim, _↔_}
 use mathlib.Core.List.{List}
-use Prim.Native.Nat.{ℕ, zero, suc, _+_, _-_, _*_, _^_, _≤_, _<_}
+use Prim.Native.Nat.{ℕ, zero, suc, _+_, _*_, _^_, _≤_, _<_}
 use native.Mathlib.Nat.{mul-le-mul-right, eq-or-lt-of-le}
 use native.Mathlib.Omega.{arith}
 use lib.Dec.{ltb, eqb}
 use borrow.Author.Tests.{lt-ltb, le-ltb, eq-eqb, ne-eqb, ltb-true, ltb-false, eqb-true, eqb-false}
-use Rattle.rows.specs.Rows.{keyOf, keyAt, Sorted}
-use Rattle.rows.specs.Found.{placeOf}
+use Rattle.rows.specs.Rows.{keyOf}
+use Rattle.rows.specs.inner.Order.{keyAt, Sorted}
+use Rattle.rows.specs.inner.Found.{placeOf}
 use Rattle.rows.specs.declared.Place.{Place}
 use Rattle.rows.specs.declared.Place.the-variants.{At, Gap}
 
@@ -70,17 +71,6 @@ key-same-test p n q m hn hm = go (eqb p q) (eqb n m) refl refl
     go true true e f = sym (eq-eqb (keyOf p n) (keyOf q m) (omega (arith, eqb-true p q e, eqb-true n m f)))
     go true false e f = sym (ne-eqb (keyOf p n) (keyOf q m) (λ z. eqb-false n m f (key-one p n q m hn hm z .1)))
     go false b e f = sym (ne-eqb (keyOf p n) (keyOf q m) (λ z. eqb-false p q e (key-one p n q m hn hm z .0)))
-
--- fewer rows of a sorted table are sorted
-pub sorted-less : (s : List ℕ) (w n i : ℕ) → n ≤ i → Sorted s w i → Sorted s w n
-sorted-less s w n i h o a b l q = o a b l (omega arith)
-
--- one row more, above the last
-pub sorted-more : (s : List ℕ) (w i : ℕ) → 1 ≤ i → Sorted s w i → keyAt s w (i - 1) < keyAt s w i → Sorted s w (i + 1)
-sorted-more s w i p o h a b l q = ⊎-elim (λ e. last e) (λ r. o a b l r) (le-cases b i (omega arith))
-  where
-    last : b ≡ i → keyAt s w a < keyAt s w b
-    last e = ⊎-elim (λ f. omega (arith, ap (keyAt s w) e, ap (keyAt s w) f)) (λ r. omega (arith, ap (keyAt s w) e, o a (i - 1) r (omega arith))) (le-cases a (i - 1) (omega arith))
 
 -- lo and hi bracket the place of k among the first n rows
 pub record Bracket (s : List ℕ) (w n k lo hi : ℕ) : Type 0 where

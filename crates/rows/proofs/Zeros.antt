@@ -9,7 +9,8 @@ use lib.Dec.{eqb}
 use lib.ListN.{length, getD, drop, drop-of-length-le}
 use lib.Seq.{drop-cons, getD-drop}
 use borrow.Author.Tests.{eq-eqb, eqb-true}
-use Rattle.rows.specs.Rows.{Blank, allZero, zeroAt, twoZero, fourZero, eightZero}
+use Rattle.rows.specs.inner.Order.{Blank, zeroAt, twoZero, fourZero, eightZero}
+use Rattle.rows.specs.Rows.{allZero}
 use Rattle.rows.proofs.Order.{false-true}
 
 left : (a b : Bool) → (a && b) ≡ true → a ≡ true

@@ -1,4 +1,3 @@
+-- A reader believes `Rows`; what functions on rows ask and say is in `inner`.
 pub mod Rows
-pub mod Found
-pub mod Halves
-pub mod Chunks
+pub mod inner

@@ -3,7 +3,8 @@ ghost use mathlib.Core.Path.{_≡_};
 ghost use Prim.Native.Nat.{_+_, _*_, _≤_, _<_};
 ghost use lib.ListN.{length, drop};
 ghost use lib.Seq.{paste};
-ghost use Rattle.rows.specs.Rows.{zeros, inserted, removed, written};
+ghost use Rattle.rows.specs.Rows.{zeros};
+ghost use Rattle.rows.specs.inner.Moves.{closed, inserted, removed, rowWritten};
 
 // Copies the n words from index `from` on to index `to` on, where to is at least from: the last word first.
 fn copy_up(s: &mut [u64], from: usize, to: usize, n: usize)
@@ -43,11 +44,24 @@ fn clear(s: &mut [u64], to: usize, n: usize)
     }
 }
 
+// Takes the words a .. b - 1 out of the first n: those after them go down, and zeros follow. Where there are none to take, nothing is touched.
+pub fn close(s: &mut [u64], a: usize, b: usize, n: usize)
+    requires { ⌜ (a ≤ b) × (b ≤ n) ⌝ }
+    requires { ⌜ n ≤ length (now s) ⌝ }
+    ensures { λ _. ⌜ now (s .exit) ≡ closed (now (s .entry)) a b n ⌝ }
+{
+    if a == b {
+        return;
+    }
+    copy_down(s, b, a, n - b);
+    clear(s, a + (n - b), b - a);
+}
+
 // Writes `row` as row i.
 pub fn write_row(s: &mut [u64], width: usize, i: usize, row: &[u64])
     requires { ⌜ length (now row) ≡ width ⌝ }
     requires { ⌜ i * width + width ≤ length (now s) ⌝ }
-    ensures { λ _. ⌜ now (s .exit) ≡ written (now (s .entry)) width i (now (row .entry)) ⌝ }
+    ensures { λ _. ⌜ now (s .exit) ≡ rowWritten (now (s .entry)) width i (now (row .entry)) ⌝ }
 {
     let here = i * width;
     let mut j = 0;
@@ -75,7 +89,5 @@ pub fn remove(s: &mut [u64], width: usize, used: usize, at: usize)
     ensures { λ _. ⌜ now (s .exit) ≡ removed (now (s .entry)) width used at ⌝ }
 {
     let here = at * width;
-    let last = used * width - width;
-    copy_down(s, here + width, here, last - here);
-    clear(s, last, width);
+    close(s, here, here + width, used * width);
 }

@@ -1,54 +1,9 @@
-// Tests of any words: what makes them a table that can be searched.
-use crate::row::below;
-use crate::row::get;
+// Whether words are all zero.
 ghost use mathlib.Core.Path.{_≡_};
-ghost use mathlib.Core.Bool.{true};
-ghost use Prim.Native.Nat.{_+_, _*_, _≤_, _<_};
-ghost use lib.Dec.{ltb};
+ghost use Prim.Native.Nat.{_+_, _≤_};
 ghost use lib.ListN.{length, drop};
-ghost use Rattle.rows.specs.Rows.{keyAt, allZero, twoZero, fourZero, eightZero, Sorted, Used, Ordered};
-
-// The number of leading rows that are used.
-pub fn leading_rows(s: &[u64], width: usize) -> usize
-    requires { ⌜ 1 < width ⌝ }
-    ensures { λ r. ⌜ Used (now (s .entry)) width r ⌝ }
-{
-    let rows = s.len() / width;
-    let mut i = 0;
-    while i < rows {
-        if get(s, width, i, 1) == 0 {
-            return i;
-        }
-        i += 1;
-    }
-    i
-}
-
-// Whether row i is below row j.
-fn row_below(s: &[u64], width: usize, i: usize, j: usize) -> bool
-    requires { ⌜ i * width + 1 < length (now s) ⌝ }
-    requires { ⌜ j * width + 1 < length (now s) ⌝ }
-    ensures { λ r. ⌜ r ≡ ltb (keyAt (now (s .entry)) width i) (keyAt (now (s .entry)) width j) ⌝ }
-{
-    let p = get(s, width, i, 0);
-    let n = get(s, width, i, 1);
-    below(p, n, get(s, width, j, 0), get(s, width, j, 1))
-}
-
-// Whether the first n rows ascend strictly.
-fn ascending(s: &[u64], width: usize, n: usize) -> bool
-    requires { ⌜ (1 < width) × (n * width ≤ length (now s)) ⌝ }
-    ensures { λ r. ⌜ (r ≡ true → Sorted (now (s .entry)) width n) × (Sorted (now (s .entry)) width n → r ≡ true) ⌝ }
-{
-    let mut i = 1;
-    while i < n {
-        if !row_below(s, width, i - 1, i) {
-            return false;
-        }
-        i += 1;
-    }
-    true
-}
+ghost use Rattle.rows.specs.Rows.{allZero};
+ghost use Rattle.rows.specs.inner.Order.{twoZero, fourZero, eightZero};
 
 // Whether the two words from index j on are zero.
 fn two_blank(s: &[u64], j: usize) -> bool
@@ -103,17 +58,4 @@ pub fn blank(s: &[u64], from: usize) -> bool
         j += 8;
     }
     rest_blank(s, j)
-}
-
-// Whether the used rows come first and ascend strictly, and nothing stands after them.
-pub fn well_ordered(s: &[u64], width: usize) -> bool
-    requires { ⌜ 1 < width ⌝ }
-    ensures { λ r. ⌜ (r ≡ true → Ordered (now (s .entry)) width) × (Ordered (now (s .entry)) width → r ≡ true) ⌝ }
-{
-    let n = leading_rows(s, width);
-    if ascending(s, width, n) {
-        blank(s, n * width)
-    } else {
-        false
-    }
 }

@@ -1,5 +1,7 @@
 // Search by halving. Each turn of a loop reads one row and leaves at most half of the rows in question, so that a search among `n` rows reads at
 // most as many rows as `n` has binary digits. A turn selects between values that are at hand: it has no branch for the machine to guess.
+use crate::NUMBER;
+use crate::POOL;
 use crate::Place;
 use crate::row::below;
 use crate::row::get;
@@ -7,9 +9,10 @@ use crate::row::same;
 ghost use mathlib.Core.Path.{_≡_};
 ghost use Prim.Native.Nat.{_+_, _*_, _^_, _≤_, _<_};
 ghost use lib.ListN.{length};
-ghost use Rattle.rows.specs.Rows.{keyOf, Sorted, Packed, Used};
-ghost use Rattle.rows.specs.Found.{placeOf};
-ghost use Rattle.rows.specs.Halves.{halfOf};
+ghost use Rattle.rows.specs.Rows.{keyOf};
+ghost use Rattle.rows.specs.inner.Order.{Sorted, Packed, Used};
+ghost use Rattle.rows.specs.inner.Found.{placeOf};
+ghost use Rattle.rows.specs.inner.Halves.{halfOf};
 
 // The rows in question, from row `low` on, and whether the row just behind them has the key.
 struct Span {
@@ -62,8 +65,8 @@ pub fn find(s: &[u64], width: usize, used: usize, pool: u64, number: u64) -> Pla
             break Place::Gap(at.low);
         }
         let mid = at.low + at.rows / 2;
-        let p = get(s, width, mid, 0);
-        let n = get(s, width, mid, 1);
+        let p = get(s, width, mid, POOL);
+        let n = get(s, width, mid, NUMBER);
         at = halved(at, below(p, n, pool, number), same(p, n, pool, number));
     }
 }
@@ -81,7 +84,7 @@ pub fn used_rows(s: &[u64], width: usize) -> usize
     };
     while 0 < at.rows {
         let mid = at.low + at.rows / 2;
-        at = halved(at, get(s, width, mid, 1) != 0, false);
+        at = halved(at, get(s, width, mid, NUMBER) != 0, false);
     }
     at.low
 }

@@ -8,12 +8,12 @@ use lib.IntN.{ℤ, pos, _+ℤ_}
 use lib.ListN.{length}
 use Rattle.whole.specs.Whole.{up, dn, Within}
 use Rattle.whole.proofs.Linear.{sum, abs, one}
-use Rattle.rules.specs.Limits.{limit, mostStakes, mostOffers}
+use Rattle.rules.specs.Limits.{limit, mostStakes, mostOffers, pools}
 use Rattle.rules.specs.Table.{sumOf}
 use Rattle.rules.specs.Books.{Books, StakeRow, OfferRow, stakeKey, offerKey, cover, balanceOf, unpaidOf}
 use Rattle.rules.specs.Formed.{stakeIn, coverIn}
 use Rattle.rules.proofs.Tests.{cases}
-use Rattle.rules.proofs.Facts.{StakeOk, OfferOk, Rows, WellFormed}
+use Rattle.rules.specs.inner.Facts.{StakeOk, OfferOk, Rows, WellFormed}
 
 module _ {A : Type 0} (key : A → ℕ) (Ok : A → Type 0) (f : A → ℤ) (most : ℕ) (within : (x : A) → Ok x → Within most (f x)) where
   -- a sum over rows in order is at most as many limits as there are rows
@@ -38,14 +38,14 @@ cover-most pool r ok =
     (λ e. record { above = omega (arith, ok .most); below = omega arith }) (λ e. record { above = omega arith; below = omega arith })
 
 -- a balance is within 1,024 limits, an unpaid sum within 512
-pub balance-most : (b : Books) → WellFormed b → (pool : ℕ) → pool < 4 → Within (mostStakes * limit) (balanceOf b pool)
+pub balance-most : (b : Books) → WellFormed b → (pool : ℕ) → pool < pools → Within (mostStakes * limit) (balanceOf b pool)
 balance-most b w pool h =
     let e = w .balance-is pool h in
     let m = sum-most stakeKey StakeOk (stakeIn pool) limit (stake-most pool) 0 (b .stakes) (w .stake-rows) in
     let r = w .stake-room in
     record { above = omega (arith, ap up e, m .above, r .lent, r .enough); below = omega (arith, ap dn e, m .below, r .lent, r .enough) }
 
-pub unpaid-most : (b : Books) → WellFormed b → (pool : ℕ) → pool < 4 → unpaidOf b pool ≤ mostOffers * limit
+pub unpaid-most : (b : Books) → WellFormed b → (pool : ℕ) → pool < pools → unpaidOf b pool ≤ mostOffers * limit
 unpaid-most b w pool h =
     let m = sum-most offerKey OfferOk (coverIn pool) limit (cover-most pool) 0 (b .offers) (w .offer-rows) in
     let r = w .offer-room in

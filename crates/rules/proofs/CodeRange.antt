@@ -8,13 +8,13 @@ use lib.Dec.{ltb, leb, eqb}
 use lib.IntN.{ℤ, pos}
 use lib.Signed.{leZ, ltZ}
 use Rattle.whole.specs.Whole.{up}
-use Rattle.rules.specs.Limits.{limit, leastStake, greatestRate, flat}
+use Rattle.rules.specs.Limits.{limit, leastStake, greatestRate, flat, notConfigured, notDefaulted}
 use Rattle.rules.specs.Books.{Books}
 use Rattle.rules.specs.Calls.{Account, Operation, Call, Stake, Withdraw, Pay, Reserve, Claim, Rate, Pause, Unpause, PayoutCaller, Unknown}
 use Rattle.rules.specs.Answers.{Plan, refused, does, _refuses_else_, enact, notBy, Malformed, Paused, NoPayer, NotAllowed, InvalidInput, NoRegistry, InvalidTransition, InsufficientBalance, OverLimit, TableFull}
 use Rattle.rules.specs.Stakes.{stakedRow, noStakeRoom, stake, overdrawn, yieldDue, unstake}
 use Rattle.rules.specs.Payouts.{asCaller, payable, lossOver, payOut, grantable, grantedRow, noOfferRoom, reservePayout, coverOf, claimable, claimPayout}
-use Rattle.rules.specs.Settings.{bankAll, accrualsFit, setYieldRate, setPaused, setPayoutCaller}
+use Rattle.rules.specs.Settings.{asAdmin, bankAll, accrualsFit, setYieldRate, setPaused, setPayoutCaller}
 use Rattle.rules.specs.Step.{malformed, planOf, step}
 
 abbrev codeOf : Plan → ℕ
@@ -38,16 +38,19 @@ module _ (b : Books) (signer : Account) where
   caller-coded : (amount : ℤ) (p : Plan) → Coded p → Coded (asCaller b signer amount p)
   caller-coded amount p h =
       rung (b .settings .paused) Paused _ refl
-      (rung (eqb (b .settings .caller) 0) NoPayer _ refl
+      (rung (eqb (b .settings .caller .0) 0) NoPayer _ refl
       (rung (notBy (b .settings .caller) signer) NotAllowed _ refl
       (rung (leZ amount (pos 0)) InvalidInput _ refl
       (rung (ltZ (pos limit) amount) OverLimit p refl h))))
+
+  admin-coded : (p : Plan) → Coded p → Coded (asAdmin b signer p)
+  admin-coded p h = rung (b .settings .paused) Paused _ refl (rung (notBy (b .settings .admin) signer) NotAllowed p refl h)
 
   plan-coded : (now : ℕ) (o : Operation) → Coded (planOf b now signer o)
   unfolding stake unstake payOut reservePayout claimPayout setYieldRate setPaused setPayoutCaller
   plan-coded now (Stake c) =
       rung (b .settings .paused) Paused _ refl
-      (rung (notBy (c .staker .0) signer) NotAllowed _ refl
+      (rung (notBy (c .staker) signer) NotAllowed _ refl
       (rung (leZ (c .amount) (pos 0)) InvalidInput _ refl
       (rung (ltZ (pos limit) (c .amount)) OverLimit _ refl
       (rung (ltZ (stakedRow b now c .stake) (pos leastStake)) InvalidInput _ refl
@@ -56,7 +59,7 @@ module _ (b : Books) (signer : Account) where
       (done-coded _ _)))))))
   plan-coded now (Withdraw c) =
       rung (b .settings .paused && not (eqb (c .pool) flat)) Paused _ refl
-      (rung (notBy (c .staker .0) signer) NotAllowed _ refl
+      (rung (notBy (c .staker) signer) NotAllowed _ refl
       (rung (leZ (c .amount) (pos 0)) InvalidInput _ refl
       (rung (overdrawn b c) InsufficientBalance _ refl
       (rung (ltb limit (yieldDue b now c)) OverLimit _ refl
@@ -64,8 +67,8 @@ module _ (b : Books) (signer : Account) where
   plan-coded now (Pay c) =
       let paid = up (payable b c) in
       caller-coded (c .amount) _
-      (rung (eqb (c .reply) 0) NoRegistry _ refl
-      (rung (eqb (c .reply) 1) InvalidTransition _ refl
+      (rung (eqb (c .reply) notConfigured) NoRegistry _ refl
+      (rung (eqb (c .reply) notDefaulted) InvalidTransition _ refl
       (either (eqb paid 0) _ _ (done-coded _ _) (rung (lossOver b (c .pool) paid) OverLimit _ refl (done-coded _ _)))))
   plan-coded now (Reserve c) =
       let granted = up (grantable b c) in
@@ -79,16 +82,13 @@ module _ (b : Books) (signer : Account) where
       (rung (eqb (coverOf b c) 0) InsufficientBalance _ refl
       (either (eqb paid 0) _ _ (done-coded _ _) (rung (lossOver b (c .pool) paid) OverLimit _ refl (done-coded _ _))))
   plan-coded now (Rate c) =
-      rung (b .settings .paused) Paused _ refl
-      (rung (notBy (b .settings .admin) signer) NotAllowed _ refl
+      admin-coded _
       (rung (ltZ (pos greatestRate) (c .rate)) OverLimit _ refl
       (rung (not (accrualsFit (bankAll b now))) OverLimit _ refl
-      (done-coded _ _))))
+      (done-coded _ _)))
   plan-coded now Pause = rung (notBy (b .settings .admin) signer) NotAllowed _ refl (done-coded _ _)
   plan-coded now Unpause = rung (notBy (b .settings .admin) signer) NotAllowed _ refl (done-coded _ _)
-  plan-coded now (PayoutCaller a) =
-      rung (b .settings .paused) Paused _ refl
-      (rung (notBy (b .settings .admin) signer) NotAllowed _ refl (done-coded _ _))
+  plan-coded now (PayoutCaller a) = admin-coded _ (done-coded _ _)
   plan-coded now Unknown = record { most = omega arith }
 
 enacted : (b : Books) (p : Plan) → Coded p → enact b p .answer .code ≤ 11

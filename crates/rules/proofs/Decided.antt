@@ -1,20 +1,19 @@
 -- The test `wellFormed` holds exactly where the facts `WellFormed` do.
 use mathlib.Core.Path.{_≡_, refl}
-use mathlib.Core.Logic.{_↔_}
 use mathlib.Core.Bool.{Bool, true, false, not, _||_}
 use mathlib.Core.List.{List, [], _∷_}
-use Prim.Native.Nat.{ℕ, zero, suc, _≤_, _<_}
+use Prim.Native.Nat.{ℕ, _≤_, _<_}
 use native.Mathlib.Omega.{arith}
 use borrow.Author.Tests.{ltb-true, leb-true, eqb-true, lt-ltb, le-leb, eq-eqb, not-true}
 use lib.Dec.{eqb}
 use lib.IntN.{ℤ, pos, natAbs, _-ℤ_}
 use lib.ListN.{length}
 use Rattle.whole.proofs.Linear.{whole, dif, abs}
-use Rattle.rules.specs.Limits.{limit, lastTime, greatestRate, mostStakes, mostOffers, twoTo64}
+use Rattle.rules.specs.Limits.{limit, lastTime, greatestRate, mostStakes, mostOffers, pools, twoTo64}
 use Rattle.rules.specs.Books.{Books, StakeRow, OfferRow, Rooms, isZero, stakeKey, stakeGone, offerKey, balanceOf, unpaidOf, roomsLent}
 use Rattle.rules.specs.Formed.{stakeTest, offerTest, rowsTest, sumsTest, wellFormed}
-use Rattle.rules.proofs.Tests.{nth, held, pool-read, pool-made, number-read, number-made}
-use Rattle.rules.proofs.Facts.{StakeOk, OfferOk, Rows, WellFormed, stakeSum, coverSum}
+use Rattle.rules.proofs.Tests.{nth, held, below-read, below-made, pool-read, pool-made, number-read, number-made}
+use Rattle.rules.specs.inner.Facts.{StakeOk, OfferOk, Rows, WellFormed, stakeSum, coverSum}
 
 -- ---- rows
 
@@ -82,19 +81,19 @@ module _ {A : Type 0} (key : A → ℕ) (ok : A → Bool) (Ok : A → Type 0) wh
 
 -- ---- rooms and sums
 
-pub record Lent (rooms : Rooms) : Type 0 where
+pub record LentRooms (rooms : Rooms) : Type 0 where
   pub some-stakes : 1 ≤ rooms .stakes
   pub most-stakes : rooms .stakes ≤ mostStakes
   pub some-offers : 1 ≤ rooms .offers
   pub most-offers : rooms .offers ≤ mostOffers
 
-pub lent-read : (rooms : Rooms) → roomsLent rooms ≡ true → Lent rooms
+pub lent-read : (rooms : Rooms) → roomsLent rooms ≡ true → LentRooms rooms
 unfolding roomsLent
 lent-read rooms e =
     let t = nth _ e in
     record { some-stakes = leb-true 1 (rooms .stakes) (t 0); most-stakes = leb-true (rooms .stakes) mostStakes (t 1); some-offers = leb-true 1 (rooms .offers) (t 2); most-offers = leb-true (rooms .offers) mostOffers (t 3) }
 
-lent-made : (rooms : Rooms) → Lent rooms → roomsLent rooms ≡ true
+lent-made : (rooms : Rooms) → LentRooms rooms → roomsLent rooms ≡ true
 unfolding roomsLent
 lent-made rooms h =
     held _ (le-leb 1 (rooms .stakes) (h .some-stakes), (le-leb (rooms .stakes) mostStakes (h .most-stakes), (le-leb 1 (rooms .offers) (h .some-offers), (le-leb (rooms .offers) mostOffers (h .most-offers), tt))))
@@ -104,14 +103,6 @@ same-read x y e = let z = eqb-true (natAbs (x -ℤ y)) 0 e in omega (arith, whol
 
 same-made : (x y : ℤ) → x ≡ y → isZero (x -ℤ y) ≡ true
 same-made x y e = eq-eqb (natAbs (x -ℤ y)) 0 (omega (arith, whole, e, abs (x -ℤ y), dif x y))
-
--- what holds of the four pools
-four : (P : ℕ → Type 0) → P 0 → P 1 → P 2 → P 3 → (p : ℕ) → p < 4 → P p
-four P a b c d zero h = a
-four P a b c d (suc zero) h = b
-four P a b c d (suc (suc zero)) h = c
-four P a b c d (suc (suc (suc zero))) h = d
-four P a b c d (suc (suc (suc (suc p)))) h = absurd (omega arith)
 
 module _ (b : Books) where
   abbrev Sums : ℕ → Type 0
@@ -123,7 +114,7 @@ module _ (b : Books) where
       let t = nth _ e in
       (same-read (balanceOf b p) (stakeSum p (b .stakes)) (t 0), same-read (pos (unpaidOf b p)) (coverSum p (b .offers)) (t 1))
 
-  sums-made : WellFormed b → (p : ℕ) → p < 4 → sumsTest b p ≡ true
+  sums-made : WellFormed b → (p : ℕ) → p < pools → sumsTest b p ≡ true
   unfolding sumsTest
   sums-made w p h =
       held _ (same-made (balanceOf b p) (stakeSum p (b .stakes)) (w .balance-is p h), (same-made (pos (unpaidOf b p)) (coverSum p (b .offers)) (w .unpaid-is p h), tt))
@@ -135,55 +126,43 @@ module _ (b : Books) where
   formed-read e =
       let t = nth _ e in
       let l = lent-read (b .rooms) (t 2) in
-      let sums = four Sums (sums-read 0 (t 7)) (sums-read 1 (t 8)) (sums-read 2 (t 9)) (sums-read 3 (t 10)) in
+      let sums = below-read (sumsTest b) pools (t 6) in
       record {
         stake-rows = rows-read stakeKey stakeTest StakeOk stake-read 0 (b .stakes) (t 0);
         offer-rows = rows-read offerKey offerTest OfferOk offer-read 0 (b .offers) (t 1);
         stake-room = record { some = l .some-stakes; lent = l .most-stakes; enough = leb-true (length (b .stakes)) (b .rooms .stakes) (t 3) };
         offer-room = record { some = l .some-offers; lent = l .most-offers; enough = leb-true (length (b .offers)) (b .rooms .offers) (t 4) };
-        four-balances = eqb-true (length (b .balances)) 4 (t 5);
-        four-unpaid = eqb-true (length (b .unpaid)) 4 (t 6);
-        balance-is = λ p h. sums p h .0;
-        unpaid-is = λ p h. sums p h .1;
-        admin = number-read (b .settings .admin) (t 11);
-        caller = ltb-true (b .settings .caller) twoTo64 (t 12);
-        rate-most = leb-true (b .settings .rate) greatestRate (t 13);
+        four-pools = eqb-true (length (b .pools)) pools (t 5);
+        balance-is = λ p h. sums-read p (sums p h) .0;
+        unpaid-is = λ p h. sums-read p (sums p h) .1;
+        admin = number-read (b .settings .admin .0) (t 7);
+        caller = ltb-true (b .settings .caller .0) twoTo64 (t 8);
+        rate-most = leb-true (b .settings .rate) greatestRate (t 9);
       }
 
   pub formed-made : WellFormed b → wellFormed b ≡ true
   unfolding wellFormed
   formed-made w =
+      let rooms : LentRooms (b .rooms) = record { some-stakes = w .stake-room .some; most-stakes = w .stake-room .lent; some-offers = w .offer-room .some; most-offers = w .offer-room .lent } in
       held _ (
         rows-made stakeKey stakeTest StakeOk stake-made 0 (b .stakes) (w .stake-rows),
         (
           rows-made offerKey offerTest OfferOk offer-made 0 (b .offers) (w .offer-rows),
           (
-            lent-made (b .rooms) (record { some-stakes = w .stake-room .some; most-stakes = w .stake-room .lent; some-offers = w .offer-room .some; most-offers = w .offer-room .lent }),
+            lent-made (b .rooms) rooms,
             (
               le-leb (length (b .stakes)) (b .rooms .stakes) (w .stake-room .enough),
               (
                 le-leb (length (b .offers)) (b .rooms .offers) (w .offer-room .enough),
                 (
-                  eq-eqb (length (b .balances)) 4 (w .four-balances),
+                  eq-eqb (length (b .pools)) pools (w .four-pools),
                   (
-                    eq-eqb (length (b .unpaid)) 4 (w .four-unpaid),
+                    below-made (sumsTest b) pools (sums-made w),
                     (
-                      sums-made w 0 (omega arith),
+                      number-made (b .settings .admin .0) (w .admin),
                       (
-                        sums-made w 1 (omega arith),
-                        (
-                          sums-made w 2 (omega arith),
-                          (
-                            sums-made w 3 (omega arith),
-                            (
-                              number-made (b .settings .admin) (w .admin),
-                              (
-                                lt-ltb (b .settings .caller) twoTo64 (w .caller),
-                                (le-leb (b .settings .rate) greatestRate (w .rate-most), tt),
-                              ),
-                            ),
-                          ),
-                        ),
+                        lt-ltb (b .settings .caller .0) twoTo64 (w .caller),
+                        (le-leb (b .settings .rate) greatestRate (w .rate-most), tt),
                       ),
                     ),
                   ),
@@ -193,6 +172,3 @@ module _ (b : Books) where
           ),
         ),
       )
-
-  pub formed-decided : wellFormed b ≡ true ↔ WellFormed b
-  formed-decided = (formed-read, formed-made)

@@ -1,4 +1,4 @@
--- Document 01's "Slips to shut off", each as the fact that shuts it off.
+-- Document 01's slips are shut off.
 use mathlib.Core.Path.{_≡_, refl, _∙_, ap}
 use mathlib.Core.Bool.{Bool, true, false, cond, and-false}
 use mathlib.Core.List.{List, [], _∷_, _++_}
@@ -13,18 +13,19 @@ use Rattle.whole.specs.Whole.{up}
 use Rattle.whole.specs.Shares.{share}
 use Rattle.whole.proofs.Linear.{whole, sum, neg, lesser-is}
 use Rattle.whole.proofs.Shares.{share-is}
-use Rattle.rules.specs.Limits.{limit, aggressive, flat, isPool, isNumber}
-use Rattle.rules.specs.Terms.{bankAccruedYield, capped}
+use Rattle.rules.specs.Limits.{flat, isPool, isNumber}
+use Rattle.rules.specs.Terms.{bankAccruedYield}
 use Rattle.rules.specs.Table.{find, has, put, keep, each, sumOf}
-use Rattle.rules.specs.Books.{Books, StakeRow, isZero, stakeAt, stakeGone, stakeRow, balanceOf}
+use Rattle.rules.specs.Books.{Books, StakeRow, isZero, stakeGone, balanceOf}
 use Rattle.rules.specs.Sharing.{sharer, sharers, cutOf, reductions, cutRow, lowered, shared}
 use Rattle.rules.specs.Calls.{ClaimCall}
 use Rattle.rules.specs.Answers.{notBy}
 use Rattle.rules.specs.Stakes.{noStakeRoom, stake, overdrawn, unstake}
 use Rattle.rules.specs.Payouts.{available}
 use Rattle.rules.specs.Step.{malformed, step}
+use Rattle.rules.specs.Samples.{booksAfter}
+use Rattle.rules.specs.Slips.{accrualSum, Slips}
 use Rattle.rules.proofs.Tests.{cases, and-right}
-use Rattle.rules.proofs.Samples.{at, stakeCall, unstakeCall, roomy, after}
 
 -- ---- "Taking a wiped row, kept only for its accrual, as the last sharer"
 
@@ -74,9 +75,6 @@ tier-claim b c n = rw (ne-eqb (c .pool) flat n)
 
 -- ---- "Freeing an accrual when a loss wipes the stake"
 
-abbrev pub accrualSum : List StakeRow → ℤ
-accrualSum rows = sumOf (λ r. pos (r .accrual)) rows
-
 pub lowered-accruals : (pool : ℕ) (rows : List StakeRow) (cuts : List ℤ) → accrualSum (lowered pool rows cuts) ≡ accrualSum rows
 unfolding lowered sumOf
 lowered-accruals pool [] cuts = refl
@@ -94,16 +92,6 @@ pub shared-accruals : (pool loss balance : ℕ) (rows : List StakeRow) → accru
 unfolding shared
 shared-accruals pool loss balance rows = lowered-accruals pool rows _
 
-pub record Slips : Type 0 where
-  pub wiped-row : (pool : ℕ) (r : StakeRow) → r .stake ≡ pos 0 → (loss balance : ℕ) (rows : List StakeRow) → shared pool loss balance (rows ++ (r ∷ [])) ≡ shared pool loss balance rows ++ (r ∷ [])
-  pub toward-zero : (n loss balance rest : ℕ) (s : ℤ) (more : List ℤ) → getD (reductions loss balance (pos rest) (negsuc n ∷ s ∷ more)) 0 (pos 0) ≡ negℤ (pos (suc n * loss / balance))
-  pub tier-rule : (b : Books) (c : ClaimCall) → (c .pool ≡ flat → ⊥) → available b c ≡ balanceOf b (c .pool)
-  pub accruals : (pool loss balance : ℕ) (rows : List StakeRow) → accrualSum (shared pool loss balance rows) ≡ accrualSum rows
-  -- "Refusing a withdrawal that leaves less than 1,000,000"
-  pub one-left : stakeAt (after roomy (at 0 7 (stakeCall 1 7 (pos 2_000_000)) ∷ at 5 7 (unstakeCall 1 7 (pos 1_999_999)) ∷ [])) 1 7 ≡ stakeRow 1 7 (pos 1) 5 0
-  -- "Holding 10^15 times 10,000 in a signed 64-bit number"
-  pub whole-cap : capped aggressive limit ≡ limit
-
 pub slips : Slips
-unfolding isPool isNumber bankAccruedYield find has put each notBy noStakeRoom stake overdrawn unstake malformed step after
+unfolding isPool isNumber bankAccruedYield find has put each notBy noStakeRoom stake overdrawn unstake malformed step booksAfter
 slips = record { wiped-row = wiped-last; toward-zero = negative-share; tier-rule = tier-claim; accruals = shared-accruals; one-left = refl; whole-cap = refl }

@@ -11,9 +11,9 @@ use lib.Signed.{ltZ, _<ℤ_}
 use lib.ListN.{length}
 use Rattle.whole.specs.Whole.{up}
 use Rattle.whole.proofs.Linear.{whole, sum, dif, abs}
-use Rattle.rules.specs.Limits.{limit, lastTime}
+use Rattle.rules.specs.Limits.{limit, lastTime, pools}
 use Rattle.rules.specs.Table.{find, has, put, all}
-use Rattle.rules.specs.Books.{Books, StakeRow, OfferRow, stakeKey, stakeGone, noStake, offerKey, offerGone, offerAt, offerRow, balanceOf}
+use Rattle.rules.specs.Books.{Books, StakeRow, OfferRow, stakeKey, stakeGone, noStake, offerKey, offerGone, noOffer, offerAt, balanceOf}
 use Rattle.rules.specs.Sharing.{shared}
 use Rattle.rules.specs.Calls.{Account, StakeCall, PayCall, ReserveCall, ClaimCall, Operation, Call, Stake, Withdraw, Pay, Reserve, Claim, Rate, Pause, Unpause, PayoutCaller, Unknown}
 use Rattle.rules.specs.Answers.{enact}
@@ -23,7 +23,8 @@ use Rattle.rules.specs.Settings.{setPaused}
 use Rattle.rules.specs.Step.{fieldTests, planOf, step}
 use Rattle.rules.specs.Formed.{wellFormed}
 use Rattle.rules.proofs.Tests.{or-left, or-right, nth, pool-read, number-read}
-use Rattle.rules.proofs.Facts.{WellFormed, stakeSum}
+use Rattle.rules.specs.inner.Facts.{WellFormed, stakeSum}
+use Rattle.rules.proofs.Pools.{unpaid-stays}
 use Rattle.rules.proofs.Tables.{has-none, put-length, put-length-has}
 use Rattle.rules.proofs.Ladders.{stake-cases, unstake-cases, pay-cases, reserve-cases, claim-cases, pause-cases, hire-cases}
 use Rattle.rules.proofs.Writes.{stakes-formed, settings-formed, old-stake, stake-put, old-offer, offer-put}
@@ -37,7 +38,7 @@ use Rattle.rules.proofs.Losses.{shared-sum, shared-other, shared-length
 
 module _ {A : Type 0} (key : A → ℕ) (gone : A → Bool) (r : A) (rows : List A) (room : ℕ) (h : length rows ≤ room) where
   -- where there is a row for the key, or a free one, the row put has its place
-  room-for : (not (has key (key r) rows) && leb room (length rows)) ≡ false → length (put key gone r rows) ≤ room
+  pub room-for : (not (has key (key r) rows) && leb room (length rows)) ≡ false → length (put key gone r rows) ≤ room
   room-for e = go (has key (key r) rows) refl e
     where
       go : (t : Bool) → has key (key r) rows ≡ t → (not t && leb room (length rows)) ≡ false → length (put key gone r rows) ≤ room
@@ -45,7 +46,7 @@ module _ {A : Type 0} (key : A → ℕ) (gone : A → Bool) (r : A) (rows : List
       go false f e = omega (arith, put-length key gone r rows, leb-false room (length rows) e)
 
   -- where what is found is not the row given for none
-  room-found : (d : A) → (find key d (key r) rows ≡ d → ⊥) → length (put key gone r rows) ≤ room
+  pub room-found : (d : A) → (find key d (key r) rows ≡ d → ⊥) → length (put key gone r rows) ≤ room
   room-found d n = go (has key (key r) rows) refl
     where
       go : (t : Bool) → has key (key r) rows ≡ t → length (put key gone r rows) ≤ room
@@ -65,7 +66,7 @@ stake-formed b now signer c time e w =
     let top = or-left (ltZ (pos limit) (r .stake)) (ltb limit (r .accrual)) (h .limits) in
     let acc = ltb-false limit (r .accrual) (or-right (ltZ (pos limit) (r .stake)) (ltb limit (r .accrual)) (h .limits)) in
     let low = h .least in
-    stake-put b w (c .pool) (c .staker .0) pool number (old .stake +ℤ c .amount) now (r .accrual) _
+    stake-put b w (c .pool) (c .staker) pool number (old .stake +ℤ c .amount) now (r .accrual) _
     time (omega (arith, whole, top, low, abs (old .stake +ℤ c .amount))) acc
     (room-for stakeKey stakeGone r (b .stakes) (b .rooms .stakes) (w .stake-room .enough) (h .room))
     (omega (arith, whole, sum (balanceOf b (c .pool)) (c .amount), sum (old .stake) (c .amount), sum (balanceOf b (c .pool) +ℤ c .amount) (old .stake), sum (balanceOf b (c .pool)) (old .stake +ℤ c .amount))))
@@ -77,18 +78,18 @@ unstake-formed b now signer c time e w =
     let pool = pool-read (c .pool) (nth _ e 0) in
     let number = number-read (c .staker .0) (nth _ e 1) in
     let old = oldStake b c in
-    let o = old-stake b w (c .pool) (c .staker .0) (number .word) in
+    let o = old-stake b w (c .pool) (c .staker) (number .word) in
     let some = h .some in
     let enough = h .enough in
-    stake-put b w (c .pool) (c .staker .0) pool number (old .stake -ℤ c .amount) now 0 _
+    stake-put b w (c .pool) (c .staker) pool number (old .stake -ℤ c .amount) now 0 _
     time (omega (arith, whole, some, enough, o .size, abs (old .stake), abs (old .stake -ℤ c .amount), dif (old .stake) (c .amount))) (omega arith)
-    (room-found stakeKey stakeGone (unstakedRow b now c) (b .stakes) (b .rooms .stakes) (w .stake-room .enough) (noStake (c .pool) (c .staker .0))
-    (λ (e : old ≡ noStake (c .pool) (c .staker .0)). let z = ap (λ (x : StakeRow). x .stake) e in omega (arith, whole, some, enough, z)))
+    (room-found stakeKey stakeGone (unstakedRow b now c) (b .stakes) (b .rooms .stakes) (w .stake-room .enough) (noStake (c .pool) (c .staker))
+    (λ (e : old ≡ noStake (c .pool) (c .staker)). let z = ap (λ (x : StakeRow). x .stake) e in omega (arith, whole, some, enough, z)))
     (omega (arith, whole, dif (balanceOf b (c .pool)) (c .amount), dif (old .stake) (c .amount), sum (balanceOf b (c .pool) -ℤ c .amount) (old .stake), sum (balanceOf b (c .pool)) (old .stake -ℤ c .amount))))
 
 -- ---- losses
 
-pub loss-formed : (b : Books) (pool loss : ℕ) → pool < 4 → pos 0 <ℤ balanceOf b pool → lossOver b pool loss ≡ false → WellFormed b → WellFormed (afterLoss b pool loss)
+pub loss-formed : (b : Books) (pool loss : ℕ) → pool < pools → pos 0 <ℤ balanceOf b pool → lossOver b pool loss ≡ false → WellFormed b → WellFormed (afterLoss b pool loss)
 unfolding lossOver
 loss-formed b pool loss h t f w =
     let e = w .balance-is pool h in
@@ -115,10 +116,10 @@ reserve-formed b signer c e w =
     let pool = pool-read (c .pool) (nth _ e 0) in
     let number = number-read (c .offer .0) (nth _ e 1) in
     let n = up (grantable b c) in
-    let old = offerAt b (c .pool) (c .offer .0) in
-    let o = old-offer b (w .offer-rows) (c .pool) (c .offer .0) (number .word) in
+    let old = offerAt b (c .pool) (c .offer) in
+    let o = old-offer b (w .offer-rows) (c .pool) (c .offer) (number .word) in
     let g = granting b signer c h in
-    offer-put b w (c .pool) (c .offer .0) pool number _ _
+    offer-put b w (c .pool) (c .offer) pool number _ _
     (omega (arith, g .some)) _
     (ltb-false limit (old .reserved + n) (h .limits)) (omega (arith, o .covered))
     (room-for offerKey offerGone (grantedRow b c n) (b .offers) (b .rooms .offers) (w .offer-room .enough) (h .room))
@@ -130,17 +131,17 @@ claim-formed b signer c e w =
     let pool = pool-read (c .pool) (nth _ e 0) in
     let number = number-read (c .offer .0) (nth _ e 1) in
     let n = up (claimable b c) in
-    let old = offerAt b (c .pool) (c .offer .0) in
-    let o = old-offer b (w .offer-rows) (c .pool) (c .offer .0) (number .word) in
+    let old = offerAt b (c .pool) (c .offer) in
+    let o = old-offer b (w .offer-rows) (c .pool) (c .offer) (number .word) in
     let s = claimed-is b signer c h in
-    let part = cover-part b w (c .pool) (c .offer .0) (omega arith) (number .word) in
+    let part = cover-part b w (c .pool) (c .offer) (omega arith) (number .word) in
     let w' = loss-formed b (c .pool) n (omega arith) (omega (arith, whole, s .some, s .balance-most)) (h .limits) w in
-    offer-put (afterLoss b (c .pool) n) w' (c .pool) (c .offer .0) pool number _ _
+    offer-put (afterLoss b (c .pool) n) w' (c .pool) (c .offer) pool number _ _
     (omega (arith, s .some, s .cover-most)) _
     (o .most) (omega (arith, s .cover-most, o .covered))
-    (room-found offerKey offerGone (claimedRow b c n) (b .offers) (b .rooms .offers) (w .offer-room .enough) (offerRow (c .pool) (c .offer .0) 0 0)
-    (λ (e : old ≡ offerRow (c .pool) (c .offer .0) 0 0). let z = ap (λ (x : OfferRow). x .reserved) e in omega (arith, z, s .some, s .cover-most)))
-    (omega (arith, s .cover-most, o .covered, part)))
+    (room-found offerKey offerGone (claimedRow b c n) (b .offers) (b .rooms .offers) (w .offer-room .enough) (noOffer (c .pool) (c .offer))
+    (λ (e : old ≡ noOffer (c .pool) (c .offer)). let z = ap (λ (x : OfferRow). x .reserved) e in omega (arith, z, s .some, s .cover-most)))
+    (omega (arith, s .cover-most, o .covered, part, unpaid-stays b (shared (c .pool) n (up (balanceOf b (c .pool))) (b .stakes)) (c .pool) (balanceOf b (c .pool) -ℤ pos n) (c .pool))))
 
 -- ---- every call
 
@@ -160,7 +161,7 @@ plan-formed b now signer Pause t e w = pause-formed b signer true w
 plan-formed b now signer Unpause t e w = pause-formed b signer false w
 plan-formed b now signer (PayoutCaller a) t e w =
     hire-cases b signer a (λ p. WellFormed ((enact b p) .books)) (λ k. w)
-    (settings-formed b w (b .stakes) _ (w .stake-rows) refl (λ p. refl) (w .admin) (number-read (a .0) (nth _ e 0) .word) (w .rate-most))
+    (settings-formed b w (b .stakes) _ (w .stake-rows) refl (λ p. refl) (w .admin) (number-read (a .0) (nth _ e 1) .word) (w .rate-most))
 plan-formed b now signer Unknown t e w = w
 
 pub step-formed : (b : Books) (c : Call) → WellFormed b → WellFormed ((step b c) .books)

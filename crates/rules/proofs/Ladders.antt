@@ -1,19 +1,19 @@
 -- Each operation by cases: a law of its plan follows from the law of every refusal and of what it does, where each test of the
 -- ladder is known to have failed. No later file opens a ladder.
 use mathlib.Core.Path.{_≡_, refl}
-use mathlib.Core.Bool.{Bool, true, false, not, cond, _&&_, _||_}
+use mathlib.Core.Bool.{Bool, true, false, not, cond, _&&_}
 use Prim.Native.Nat.{ℕ, _-_}
-use lib.Dec.{ltb, eqb}
+use lib.Dec.{eqb}
 use lib.IntN.{ℤ, pos}
-use lib.Signed.{ltZ, leZ}
 use Rattle.whole.specs.Whole.{up}
-use Rattle.rules.specs.Limits.{limit, leastStake, greatestRate, flat}
+use Rattle.rules.specs.Limits.{flat, notConfigured, notDefaulted}
 use Rattle.rules.specs.Books.{Books, settings, withSettings}
 use Rattle.rules.specs.Calls.{Account, StakeCall, PayCall, ReserveCall, ClaimCall, RateCall}
 use Rattle.rules.specs.Answers.{Plan, refused, does, answers, _refuses_else_, notBy, noTransfer, transferIn, transferOut}
-use Rattle.rules.specs.Stakes.{stakedRow, afterStake, noStakeRoom, stake, yieldDue, afterUnstake, overdrawn, unstake}
-use Rattle.rules.specs.Payouts.{asCaller, afterLoss, lossOver, payable, payOut, grantable, grantedRow, afterGrant, noOfferRoom, reservePayout, coverOf, claimable, afterClaim, claimPayout}
-use Rattle.rules.specs.Settings.{bankAll, accrualsFit, setYieldRate, setPaused, setPayoutCaller}
+use Rattle.rules.specs.Stakes.{afterStake, stake, yieldDue, afterUnstake, unstake}
+use Rattle.rules.specs.Payouts.{asCaller, afterLoss, payable, payOut, grantable, afterGrant, reservePayout, coverOf, claimable, afterClaim, claimPayout}
+use Rattle.rules.specs.Settings.{asAdmin, bankAll, setYieldRate, setPaused, setPayoutCaller}
+use Rattle.rules.specs.inner.Passed.{StakeDone, UnstakeDone, Called, PayDone, ReserveDone, ClaimDone, RateDone}
 
 -- every refusal satisfies Q
 abbrev pub Refusals : (Plan → Type 0) → Type 0
@@ -30,55 +30,30 @@ module _ (Q : Plan → Type 0) (no-effect : Refusals Q) where
 
 -- ---- stake and withdraw
 
-pub record StakeDone (b : Books) (now : ℕ) (c : StakeCall) : Type 0 where
-  pub some : leZ (c .amount) (pos 0) ≡ false
-  pub most : ltZ (pos limit) (c .amount) ≡ false
-  pub least : ltZ (stakedRow b now c .stake) (pos leastStake) ≡ false
-  pub limits : (ltZ (pos limit) (stakedRow b now c .stake) || ltb limit (stakedRow b now c .accrual)) ≡ false
-  pub room : noStakeRoom b c ≡ false
-
 pub stake-cases : (b : Books) (now : ℕ) (signer : Account) (c : StakeCall) (Q : Plan → Type 0) → Refusals Q
     → (StakeDone b now c → Q (does (pos 0) (pos 0) (transferIn (c .staker) (up (c .amount))) noTransfer (afterStake b now c)))
     → Q (stake b now signer c)
 unfolding stake
 stake-cases b now signer c Q r f =
-    rung Q r (b .settings .paused) _ _ (λ e3. rung Q r (notBy (c .staker .0) signer) _ _ (λ e5. rung Q r _ _ _ (λ e6. rung Q r _ _ _ (λ e10. rung Q r _ _ _ (λ m6. rung Q r _ _ _ (λ l10. rung Q r _ _ _ (λ e11.
+    rung Q r (b .settings .paused) _ _ (λ e3. rung Q r (notBy (c .staker) signer) _ _ (λ e5. rung Q r _ _ _ (λ e6. rung Q r _ _ _ (λ e10. rung Q r _ _ _ (λ m6. rung Q r _ _ _ (λ l10. rung Q r _ _ _ (λ e11.
     f (record { some = e6; most = e10; least = m6; limits = l10; room = e11 }))))))))
-
-pub record UnstakeDone (b : Books) (now : ℕ) (c : StakeCall) : Type 0 where
-  pub some : leZ (c .amount) (pos 0) ≡ false
-  pub enough : overdrawn b c ≡ false
-  pub limits : ltb limit (yieldDue b now c) ≡ false
 
 pub unstake-cases : (b : Books) (now : ℕ) (signer : Account) (c : StakeCall) (Q : Plan → Type 0) → Refusals Q
     → (UnstakeDone b now c → Q (does (pos 0) (pos 0) (transferOut (c .staker) (up (c .amount))) (cond (eqb (yieldDue b now c) 0) noTransfer (transferOut (c .staker) (yieldDue b now c))) (afterUnstake b now c)))
     → Q (unstake b now signer c)
 unfolding unstake
 unstake-cases b now signer c Q r f =
-    rung Q r (b .settings .paused && not (eqb (c .pool) flat)) _ _ (λ e3. rung Q r (notBy (c .staker .0) signer) _ _ (λ e5. rung Q r _ _ _ (λ e6. rung Q r _ _ _ (λ e9. rung Q r _ _ _ (λ e10.
+    rung Q r (b .settings .paused && not (eqb (c .pool) flat)) _ _ (λ e3. rung Q r (notBy (c .staker) signer) _ _ (λ e5. rung Q r _ _ _ (λ e6. rung Q r _ _ _ (λ e9. rung Q r _ _ _ (λ e10.
     f (record { some = e6; enough = e9; limits = e10 }))))))
 
 -- ---- the payout caller's
-
--- what each of them has passed
-pub record Called (b : Books) (signer : Account) (amount : ℤ) : Type 0 where
-  pub running : b .settings .paused ≡ false
-  pub hired : eqb (b .settings .caller) 0 ≡ false
-  pub signed : notBy (b .settings .caller) signer ≡ false
-  pub some : leZ amount (pos 0) ≡ false
-  pub most : ltZ (pos limit) amount ≡ false
 
 pub caller-cases : (b : Books) (signer : Account) (amount : ℤ) (p : Plan) (Q : Plan → Type 0) → Refusals Q
     → (Called b signer amount → Q p)
     → Q (asCaller b signer amount p)
 caller-cases b signer amount p Q r f =
-    rung Q r (b .settings .paused) _ _ (λ e3. rung Q r (eqb (b .settings .caller) 0) _ _ (λ e4. rung Q r (notBy (b .settings .caller) signer) _ _ (λ e5. rung Q r _ _ _ (λ e6. rung Q r _ _ _ (λ e10.
+    rung Q r (b .settings .paused) _ _ (λ e3. rung Q r (eqb (b .settings .caller .0) 0) _ _ (λ e4. rung Q r (notBy (b .settings .caller) signer) _ _ (λ e5. rung Q r _ _ _ (λ e6. rung Q r _ _ _ (λ e10.
     f (record { running = e3; hired = e4; signed = e5; some = e6; most = e10 }))))))
-
-pub record PayDone (b : Books) (signer : Account) (c : PayCall) : Type 0 where
-  pub called : Called b signer (c .amount)
-  pub positive : eqb (up (payable b c)) 0 ≡ false
-  pub limits : lossOver b (c .pool) (up (payable b c)) ≡ false
 
 pub pay-cases : (b : Books) (signer : Account) (c : PayCall) (Q : Plan → Type 0) → Refusals Q
     → Q (answers (pos 0) (pos 0) b)
@@ -86,14 +61,8 @@ pub pay-cases : (b : Books) (signer : Account) (c : PayCall) (Q : Plan → Type 
     → Q (payOut b signer c)
 unfolding payOut
 pay-cases b signer c Q r z f =
-    caller-cases b signer (c .amount) _ Q r (λ h. rung Q r (eqb (c .reply) 0) _ _ (λ e7. rung Q r (eqb (c .reply) 1) _ _ (λ e8. either Q r _ _ _ (λ t. z) (λ t. rung Q r _ _ _ (λ e10.
+    caller-cases b signer (c .amount) _ Q r (λ h. rung Q r (eqb (c .reply) notConfigured) _ _ (λ e7. rung Q r (eqb (c .reply) notDefaulted) _ _ (λ e8. either Q r _ _ _ (λ t. z) (λ t. rung Q r _ _ _ (λ e10.
     f (record { called = h; positive = t; limits = e10 }))))))
-
-pub record ReserveDone (b : Books) (signer : Account) (c : ReserveCall) : Type 0 where
-  pub called : Called b signer (c .amount)
-  pub positive : eqb (up (grantable b c)) 0 ≡ false
-  pub limits : ltb limit (grantedRow b c (up (grantable b c)) .reserved) ≡ false
-  pub room : noOfferRoom b c ≡ false
 
 pub reserve-cases : (b : Books) (signer : Account) (c : ReserveCall) (Q : Plan → Type 0) → Refusals Q
     → Q (answers (pos 0) (pos 0) b)
@@ -103,12 +72,6 @@ unfolding reservePayout
 reserve-cases b signer c Q r z f =
     caller-cases b signer (c .amount) _ Q r (λ h. either Q r _ _ _ (λ t. z) (λ t. rung Q r _ _ _ (λ e10. rung Q r _ _ _ (λ e11.
     f (record { called = h; positive = t; limits = e10; room = e11 })))))
-
-pub record ClaimDone (b : Books) (signer : Account) (c : ClaimCall) : Type 0 where
-  pub called : Called b signer (c .amount)
-  pub covered : eqb (coverOf b c) 0 ≡ false
-  pub positive : eqb (up (claimable b c)) 0 ≡ false
-  pub limits : lossOver b (c .pool) (up (claimable b c)) ≡ false
 
 pub claim-cases : (b : Books) (signer : Account) (c : ClaimCall) (Q : Plan → Type 0) → Refusals Q
     → Q (answers (pos 0) (pos (coverOf b c)) b)
@@ -121,17 +84,14 @@ claim-cases b signer c Q r z f =
 
 -- ---- the admin's
 
-pub record RateDone (b : Books) (now : ℕ) (c : RateCall) : Type 0 where
-  pub most : ltZ (pos greatestRate) (c .rate) ≡ false
-  pub limits : not (accrualsFit (bankAll b now)) ≡ false
+pub admin-cases : (b : Books) (signer : Account) (p : Plan) (Q : Plan → Type 0) → Refusals Q → Q p → Q (asAdmin b signer p)
+admin-cases b signer p Q r f = rung Q r (b .settings .paused) _ _ (λ e3. rung Q r (notBy (b .settings .admin) signer) _ _ (λ e5. f))
 
 pub rate-cases : (b : Books) (now : ℕ) (signer : Account) (c : RateCall) (Q : Plan → Type 0) → Refusals Q
     → (RateDone b now c → Q (answers (pos 0) (pos 0) (withSettings b (bankAll b now) (settings (b .settings .admin) (b .settings .caller) (b .settings .paused) (up (c .rate))))))
     → Q (setYieldRate b now signer c)
 unfolding setYieldRate
-rate-cases b now signer c Q r f =
-    rung Q r (b .settings .paused) _ _ (λ e3. rung Q r (notBy (b .settings .admin) signer) _ _ (λ e5. rung Q r _ _ _ (λ e10. rung Q r _ _ _ (λ l10.
-    f (record { most = e10; limits = l10 })))))
+rate-cases b now signer c Q r f = admin-cases b signer _ Q r (rung Q r _ _ _ (λ e10. rung Q r _ _ _ (λ l10. f (record { most = e10; limits = l10 }))))
 
 pub pause-cases : (b : Books) (signer : Account) (to : Bool) (Q : Plan → Type 0) → Refusals Q
     → Q (answers (pos 0) (pos 0) (withSettings b (b .stakes) (settings (b .settings .admin) (b .settings .caller) to (b .settings .rate))))
@@ -140,7 +100,7 @@ unfolding setPaused
 pause-cases b signer to Q r f = rung Q r (notBy (b .settings .admin) signer) _ _ (λ e5. f)
 
 pub hire-cases : (b : Books) (signer a : Account) (Q : Plan → Type 0) → Refusals Q
-    → Q (answers (pos 0) (pos 0) (withSettings b (b .stakes) (settings (b .settings .admin) (a .0) (b .settings .paused) (b .settings .rate))))
+    → Q (answers (pos 0) (pos 0) (withSettings b (b .stakes) (settings (b .settings .admin) a (b .settings .paused) (b .settings .rate))))
     → Q (setPayoutCaller b signer a)
 unfolding setPayoutCaller
-hire-cases b signer a Q r f = rung Q r (b .settings .paused) _ _ (λ e3. rung Q r (notBy (b .settings .admin) signer) _ _ (λ e5. f))
+hire-cases b signer a Q r f = admin-cases b signer _ Q r f

@@ -1,5 +1,4 @@
--- Laws of one call, and of the functions that need no tables (`Tiers`, `Yields`, `Banked`). `Figures`, `Order`, `Guards` and `Worked` are document 01's own figures and warnings; the others hold of every call.
-pub mod Samples
+-- Laws of one call, and of the functions that need no tables (`Tiers`, `Yields`, `Banked`). `Figures`, `Order`, `Guards` and `Worked` prove document 01's own figures and warnings (specs); the others hold of every call.
 pub mod Figures
 pub mod Order
 pub mod CodeRange
@@ -8,7 +7,8 @@ pub mod Worked
 pub mod Conditions
 pub mod Tests
 pub mod Tables
-pub mod Facts
+pub mod Pools
+pub mod Rooms
 pub mod Decided
 pub mod Ladders
 pub mod Shapes

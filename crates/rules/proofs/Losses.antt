@@ -17,7 +17,7 @@ use Rattle.rules.specs.Books.{StakeRow, isZero, stakeKey, stakeGone, sta
 use Rattle.rules.specs.Sharing.{sharer, sharers, reductions, cutRow, lowered, shared, stakesFit}
 use Rattle.rules.specs.Formed.{stakeIn}
 use Rattle.rules.proofs.Tests.{cases, and-left, each-first}
-use Rattle.rules.proofs.Facts.{StakeOk, Rows, stakeSum}
+use Rattle.rules.specs.inner.Facts.{StakeOk, Rows, stakeSum}
 use Rattle.rules.proofs.Tables.{rows-low}
 use Rattle.rules.proofs.Cuts.{cuts-length, cuts-sum}
 

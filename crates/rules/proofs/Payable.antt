@@ -10,16 +10,16 @@ use lib.IntN.{ℤ, pos, _+ℤ_, _-ℤ_}
 use lib.Signed.{_≤ℤ_}
 use Rattle.whole.specs.Whole.{up, minZ}
 use Rattle.whole.proofs.Linear.{whole, sum, dif, one, lesser-is}
-use Rattle.rules.specs.Limits.{flat, twoTo64}
+use Rattle.rules.specs.Limits.{pools, flat, twoTo64}
 use Rattle.rules.specs.Terms.{capped}
 use Rattle.rules.specs.Table.{keyOf, find, sumOf}
-use Rattle.rules.specs.Books.{Books, offerKey, offerAt, offerRow, cover, balanceOf, unpaidOf}
-use Rattle.rules.specs.Calls.{Account, PayCall, ReserveCall, ClaimCall}
+use Rattle.rules.specs.Books.{Books, offerKey, noOffer, offerAt, cover, balanceOf, unpaidOf}
+use Rattle.rules.specs.Calls.{Account, Offer, PayCall, ReserveCall, ClaimCall}
 use Rattle.rules.specs.Payouts.{payable, grantable, coverOf, available, claimable}
 use Rattle.rules.specs.Formed.{coverIn}
 use Rattle.rules.proofs.Tests.{cases}
-use Rattle.rules.proofs.Facts.{WellFormed}
-use Rattle.rules.proofs.Ladders.{PayDone, ReserveDone, ClaimDone}
+use Rattle.rules.specs.inner.Facts.{WellFormed}
+use Rattle.rules.specs.inner.Passed.{PayDone, ReserveDone, ClaimDone}
 use Rattle.rules.proofs.Writes.{old-offer}
 
 -- what a payment says of its figures
@@ -42,7 +42,7 @@ pub record Granting (b : Books) (c : ReserveCall) : Type 0 where
 pub granting : (b : Books) (signer : Account) (c : ReserveCall) → ReserveDone b signer c → Granting b c
 granting b signer c h =
     let n = up (grantable b c) in
-    let x = cond (eqb (c .pool) flat) (c .amount) (pos (capped (c .pool) (up (c .amount))) -ℤ pos (offerAt b (c .pool) (c .offer .0) .reserved)) in
+    let x = cond (eqb (c .pool) flat) (c .amount) (pos (capped (c .pool) (up (c .amount))) -ℤ pos (offerAt b (c .pool) (c .offer) .reserved)) in
     let y = balanceOf b (c .pool) -ℤ pos (unpaidOf b (c .pool)) in
     let positive : 0 < n = let d = eqb-false n 0 (h .positive) in omega arith in
     record { some = positive; room = omega (arith, whole, positive, lesser-is x y, dif (balanceOf b (c .pool)) (pos (unpaidOf b (c .pool))), one (grantable b c)) }
@@ -88,10 +88,10 @@ found-sum {A} key f d k n e (x ∷ rows) =
     )
 
 -- an offer's cover is part of its pool's unpaid sum
-pub cover-part : (b : Books) → WellFormed b → (pool offer : ℕ) → pool < 4 → offer < twoTo64 → cover (offerAt b pool offer) ≤ unpaidOf b pool
+pub cover-part : (b : Books) → WellFormed b → (pool : ℕ) (offer : Offer) → pool < pools → offer .0 < twoTo64 → cover (offerAt b pool offer) ≤ unpaidOf b pool
 cover-part b w pool offer h q =
     let o = old-offer b (w .offer-rows) pool offer q in
-    let s = found-sum offerKey (coverIn pool) (offerRow pool offer 0 0) (keyOf pool offer)
+    let s = found-sum offerKey (coverIn pool) (noOffer pool offer) (keyOf pool (offer .0))
     (λ y. cases (eqb (y .pool) pool) (pos (cover y)) (pos 0) (λ (z : ℤ). pos 0 ≤ℤ z) (λ g. omega (arith, whole)) (λ g. omega (arith, whole)))
     (cases (eqb pool pool) (pos (0 - 0)) (pos 0) (λ (z : ℤ). z ≡ pos 0) (λ g. refl) (λ g. refl))
     (b .offers) in

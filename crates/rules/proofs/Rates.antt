@@ -19,7 +19,7 @@ use Rattle.rules.specs.Answers.{enact}
 use Rattle.rules.specs.Settings.{bankedRow, bankAll, accrualsFit, setYieldRate}
 use Rattle.rules.specs.Formed.{stakeIn}
 use Rattle.rules.proofs.Tests.{cases, and-right, each-first}
-use Rattle.rules.proofs.Facts.{StakeOk, Rows, WellFormed, stakeSum}
+use Rattle.rules.specs.inner.Facts.{StakeOk, Rows, WellFormed, stakeSum}
 use Rattle.rules.proofs.Ladders.{rate-cases}
 use Rattle.rules.proofs.Writes.{settings-formed}
 

@@ -1,19 +1,11 @@
 -- A refused call answers its code, two zeros and no transfer, and leaves the books as they were. A malformed call is refused 1.
 use mathlib.Core.Path.{_≡_, refl}
 use mathlib.Core.Bool.{true}
-use lib.IntN.{pos}
 use Rattle.rules.specs.Books.{Books}
 use Rattle.rules.specs.Calls.{Call}
-use Rattle.rules.specs.Answers.{Outcome, Plan, refused, does, outcome, refusal, enact, Malformed, _refuses_else_}
+use Rattle.rules.specs.Answers.{Plan, refused, does, outcome, refusal, enact, Malformed, _refuses_else_}
+use Rattle.rules.specs.Refusals.{NothingMoved}
 use Rattle.rules.specs.Step.{malformed, planOf, step}
-
--- no money moves, and nothing is written
-pub record NothingMoved (b : Books) (o : Outcome) : Type 0 where
-  pub first : o .answer .first ≡ pos 0
-  pub second : o .answer .second ≡ pos 0
-  pub one : o .answer .one ≡ record { kind = 0; account = record { 0 = 0 }; amount = 0 }
-  pub two : o .answer .two ≡ record { kind = 0; account = record { 0 = 0 }; amount = 0 }
-  pub books : o .books ≡ b
 
 nothing-enacted : (b : Books) (p : Plan) → ((enact b p) .answer .code ≡ 0 → ⊥) → NothingMoved b (enact b p)
 nothing-enacted b (refused k) h = record { first = refl; second = refl; one = refl; two = refl; books = refl }

@@ -11,7 +11,8 @@ use Rattle.rules.specs.Books.{Books}
 use Rattle.rules.specs.Calls.{Call}
 use Rattle.rules.specs.Answers.{Plan, Malformed, _refuses_else_}
 use Rattle.rules.specs.Step.{fieldTests, malformed, planOf}
-use Rattle.rules.proofs.Tests.{each-first, number-read, Number}
+use Rattle.rules.proofs.Tests.{each-first, number-read}
+use Rattle.rules.specs.inner.Facts.{Number}
 use Rattle.rules.proofs.Ladders.{Refusals, rung}
 
 -- its time, and its operation's own fields

@@ -11,7 +11,7 @@ use lib.ListN.{length}
 use Rattle.whole.proofs.Linear.{whole, sum}
 use Rattle.rules.specs.Table.{find, has, put, keep, sumOf}
 use Rattle.rules.proofs.Tests.{cases}
-use Rattle.rules.proofs.Facts.{Rows}
+use Rattle.rules.specs.inner.Facts.{Rows}
 
 -- how two numbers compare
 pub data Order (m n : ℕ) : Type 0 where

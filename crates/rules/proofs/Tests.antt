@@ -3,12 +3,14 @@ use mathlib.Core.Path.{_≡_, refl, sym}
 use mathlib.Core.Bool.{Bool, true, false, not, cond, _&&_, _||_, true≢false}
 use mathlib.Core.List.{List, [], _∷_}
 use Prim.Native.Nat.{ℕ, zero, suc, _≤_, _<_}
+use native.Mathlib.Decide.{ℕ-discrete}
 use native.Mathlib.Omega.{arith}
 use borrow.Author.Tests.{ltb-true, leb-true, eqb-true, eqb-false, lt-ltb, le-leb}
 use lib.Dec.{ltb, eqb}
 use lib.ListN.{getD}
-use Rattle.rules.specs.Limits.{twoTo64, isPool, isNumber}
-use Rattle.rules.specs.Table.{each, all}
+use Rattle.rules.specs.Limits.{flat, twoTo64, isPool, isNumber}
+use Rattle.rules.specs.Table.{each, all, eachBelow}
+use Rattle.rules.specs.inner.Facts.{Number}
 
 -- by cases on the test of a `cond`
 pub cases : {X : Type 0} (t : Bool) (x y : X) (P : X → Type 0) → (t ≡ true → P x) → (t ≡ false → P y) → P (cond t x y)
@@ -64,20 +66,33 @@ unfolding each
 held [] h = refl
 held (t ∷ tests) h = each-more (λ (x : Bool). x) t tests (h .0) (held tests (h .1))
 
+-- ---- each number below another
+
+module _ (f : ℕ → Bool) where
+  pub below-read : (n : ℕ) → eachBelow n f ≡ true → (k : ℕ) → k < n → f k ≡ true
+  unfolding eachBelow
+  below-read zero e k h = absurd (omega arith)
+  below-read (suc n) e k h = go (f n) refl e (below-read n) (ℕ-discrete k n)
+    where
+      go : (t : Bool) → f n ≡ t → cond t (eachBelow n f) false ≡ true → (eachBelow n f ≡ true → (k : ℕ) → k < n → f k ≡ true) → Dec (k ≡ n) → f k ≡ true
+      go true g e i (yes q) = rw q g
+      go true g e i (no q) = i e k (omega arith)
+      go false g e i d = absurd (true≢false (sym e))
+
+  pub below-made : (n : ℕ) → ((k : ℕ) → k < n → f k ≡ true) → eachBelow n f ≡ true
+  unfolding eachBelow
+  below-made zero h = refl
+  below-made (suc n) h = rw (h n (omega arith)) (below-made n (λ k l. h k (omega arith)))
+
 -- ---- pools and numbers
 
-pub pool-read : (pool : ℕ) → isPool pool ≡ true → pool ≤ 3
+pub pool-read : (pool : ℕ) → isPool pool ≡ true → pool ≤ flat
 unfolding isPool
-pool-read pool e = leb-true pool 3 e
+pool-read pool e = leb-true pool flat e
 
-pub pool-made : (pool : ℕ) → pool ≤ 3 → isPool pool ≡ true
+pub pool-made : (pool : ℕ) → pool ≤ flat → isPool pool ≡ true
 unfolding isPool
-pool-made pool h = le-leb pool 3 h
-
--- a number that is not 0 and fits a word
-pub record Number (n : ℕ) : Type 0 where
-  pub some : 0 < n
-  pub word : n < twoTo64
+pool-made pool h = le-leb pool flat h
 
 pub number-read : (n : ℕ) → isNumber n ≡ true → Number n
 unfolding isNumber

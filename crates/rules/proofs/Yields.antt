@@ -1,14 +1,13 @@
 -- The two cases of `yieldAnswer`, from those of the multiply-and-divide.
-use mathlib.Core.Bool.{Bool, true, false, cond, _&&_}
-use mathlib.Core.Path.{_≡_, refl, sym, _∙_, ap}
+use mathlib.Core.Bool.{Bool, true, false, cond}
+use mathlib.Core.Path.{_≡_, refl, ap}
 use Prim.Native.Nat.{ℕ, _^_, _≤_, _<_}
-use native.Mathlib.Omega.{arith}
 use lib.Dec.{ltb}
 use lib.IntN.{ℤ, natAbs}
-use borrow.Author.Tests.{lt-ltb, le-ltb, ltb-true, ltb-false}
+use borrow.Author.Tests.{ltb-true, ltb-false}
 use mir.Syntax.{w64}
 use mir.Val.{ofZ}
-use Rattle.whole.specs.Shares.{share, dropped}
+use Rattle.whole.specs.Shares.{share}
 use Rattle.limbs.specs.MulDiv.{signedMulDiv}
 use Rattle.limbs.specs.declared.MulDiv.{MulDiv}
 use Rattle.limbs.specs.declared.MulDiv.the-variants.{Exact, TooLarge as Large}

@@ -5,7 +5,7 @@ use lib.Dec.{eqb}
 use lib.IntN.{ℤ, pos}
 use Rattle.rules.specs.Limits.{isNumber}
 use Rattle.rules.specs.Books.{Books, Rooms, roomsLent}
-use Rattle.rules.specs.Calls.{Account, Transfer, Answer}
+use Rattle.rules.specs.Calls.{Account, Transfer, Answer, noAccount}
 
 -- ---- document 01's table of codes; Done is 0
 
@@ -54,14 +54,14 @@ abbrev pub TableFull : ℕ
 TableFull = 11
 
 -- a fresh set's code: "with admin 0 it is refused 1; lent lengths outside the limits are refused 2"
-unfoldable pub freshCode : ℕ → Rooms → ℕ
-freshCode admin rooms = cond (isNumber admin) (cond (roomsLent rooms) 0 BadTables) Malformed
+unfoldable pub freshCode : Account → Rooms → ℕ
+freshCode admin rooms = cond (isNumber (admin .0)) (cond (roomsLent rooms) 0 BadTables) Malformed
 
 -- ---- transfers: "transfers due, at most two, handed back in the answer"
 
 -- the place of a transfer that is not due
 abbrev pub noTransfer : Transfer
-noTransfer = record { kind = 0; account = record { 0 = 0 }; amount = 0 }
+noTransfer = record { kind = 0; account = noAccount; amount = 0 }
 
 -- transfer_from the account to the pool
 abbrev pub transferIn : Account → ℕ → Transfer
@@ -112,5 +112,5 @@ enact b (refused code) = outcome (refusal code) b
 enact b (does first second one two after) = outcome (done first second one two) after
 
 -- the signer is not the one "needed"
-unfoldable pub notBy : ℕ → Account → Bool
-notBy needed signer = not (eqb (signer .0) needed)
+unfoldable pub notBy : Account → Account → Bool
+notBy needed signer = not (eqb (signer .0) (needed .0))

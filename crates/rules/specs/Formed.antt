@@ -5,8 +5,8 @@ use Prim.Native.Nat.{ℕ}
 use lib.Dec.{ltb, leb, eqb}
 use lib.IntN.{ℤ, pos, natAbs, _-ℤ_}
 use lib.ListN.{length}
-use Rattle.rules.specs.Limits.{limit, lastTime, greatestRate, twoTo64, isPool, isNumber}
-use Rattle.rules.specs.Table.{sumOf, all}
+use Rattle.rules.specs.Limits.{limit, lastTime, greatestRate, twoTo64, pools, isPool, isNumber}
+use Rattle.rules.specs.Table.{sumOf, all, eachBelow}
 use Rattle.rules.specs.Books.{Books, StakeRow, OfferRow, isZero, stakeKey, stakeGone, offerKey, cover, balanceOf, unpaidOf, roomsLent}
 
 -- "no stake row with stake and accrual both zero; `since` is 0 where stake is 0"; "every figure within its limit"
@@ -47,7 +47,6 @@ wellFormed b =
     (rowsTest stakeKey stakeTest 0 (b .stakes)
     ∷ rowsTest offerKey offerTest 0 (b .offers)
     ∷ roomsLent (b .rooms) ∷ leb (length (b .stakes)) (b .rooms .stakes) ∷ leb (length (b .offers)) (b .rooms .offers)
-    ∷ eqb (length (b .balances)) 4 ∷ eqb (length (b .unpaid)) 4
-    ∷ sumsTest b 0 ∷ sumsTest b 1 ∷ sumsTest b 2 ∷ sumsTest b 3
-    ∷ isNumber (b .settings .admin) ∷ ltb (b .settings .caller) twoTo64 ∷ leb (b .settings .rate) greatestRate
+    ∷ eqb (length (b .pools)) pools ∷ eachBelow pools (sumsTest b)
+    ∷ isNumber (b .settings .admin .0) ∷ ltb (b .settings .caller .0) twoTo64 ∷ leb (b .settings .rate) greatestRate
     ∷ [])

@@ -3,9 +3,10 @@
 pub mod Limits
 pub mod Terms
 pub mod Table
+pub mod Calls
 pub mod Books
 pub mod Sharing
-pub mod Calls
+pub mod Operations
 pub mod Answers
 pub mod Stakes
 pub mod Payouts
@@ -13,3 +14,11 @@ pub mod Settings
 pub mod Step
 pub mod Queries
 pub mod Formed
+-- Statements over the definitions, which proofs/ proves: a reader needs to know what they say.
+pub mod Refusals
+pub mod Samples
+pub mod Figures
+pub mod Slips
+pub mod Order
+pub mod Worked
+pub mod inner

@@ -43,7 +43,17 @@ riskAge = 2_592_000
 abbrev pub riskAmount : ℕ
 riskAmount = 1_000_000_000
 
--- InsuranceTier: pools are numbered "0 Conservative, 1 Balanced, 2 Aggressive, 3 flat"
+-- "0 Conservative, 1 Balanced, 2 Aggressive, 3 flat"
+abbrev pub pools : ℕ
+pools = 4
+
+-- InsuranceTier: "0 Conservative, 1 Balanced, 2 Aggressive", the last the one that the riskiest invoices go to
+abbrev pub conservative : ℕ
+conservative = 0
+
+abbrev pub balanced : ℕ
+balanced = 1
+
 abbrev pub aggressive : ℕ
 aggressive = 2
 
@@ -51,9 +61,19 @@ aggressive = 2
 abbrev pub flat : ℕ
 flat = 3
 
--- one of the four pools: "unknown .. pool" is Malformed
+-- one of the pools, of which flat is the last: "unknown .. pool" is Malformed
 unfoldable pub isPool : ℕ → Bool
 isPool pool = leb pool flat
+
+-- the registry's replies: "0 not configured, 1 not Defaulted, 2 Defaulted"
+abbrev pub notConfigured : ℕ
+notConfigured = 0
+
+abbrev pub notDefaulted : ℕ
+notDefaulted = 1
+
+abbrev pub lastReply : ℕ
+lastReply = 2
 
 -- 2^64: account, offer and invoice numbers are below it, "64-bit numbers"
 abbrev pub twoTo64 : ℕ

@@ -6,7 +6,7 @@ use lib.IntN.{ℤ, pos, _-ℤ_}
 use lib.ListN.{length}
 use lib.Signed.{ltZ, leZ}
 use Rattle.whole.specs.Whole.{up, minZ}
-use Rattle.rules.specs.Limits.{limit, flat}
+use Rattle.rules.specs.Limits.{limit, flat, notConfigured, notDefaulted}
 use Rattle.rules.specs.Terms.{capped}
 use Rattle.rules.specs.Table.{keyOf, has}
 use Rattle.rules.specs.Books.{Books, OfferRow, offerKey, offerRow, offerAt, putOffer, cover, balanceOf, unpaidOf, withStakes, withOffers}
@@ -18,7 +18,7 @@ use Rattle.rules.specs.Answers.{Plan, does, answers, _refuses_else_, not
 abbrev pub asCaller : Books → Account → ℤ → Plan → Plan
 asCaller b signer amount p =
     b .settings .paused refuses Paused else
-    eqb (b .settings .caller) 0 refuses NoPayer else
+    eqb (b .settings .caller .0) 0 refuses NoPayer else
     notBy (b .settings .caller) signer refuses NotAllowed else
     leZ amount (pos 0) refuses InvalidInput else
     ltZ (pos limit) amount refuses OverLimit else
@@ -44,8 +44,8 @@ unfoldable pub payOut : Books → Account → PayCall → Plan
 payOut b signer c =
     let paid = up (payable b c) in
     asCaller b signer (c .amount)
-    (eqb (c .reply) 0 refuses NoRegistry else
-    eqb (c .reply) 1 refuses InvalidTransition else
+    (eqb (c .reply) notConfigured refuses NoRegistry else
+    eqb (c .reply) notDefaulted refuses InvalidTransition else
     cond (eqb paid 0) (answers (pos 0) (pos 0) b)
     (lossOver b (c .pool) paid refuses OverLimit else
     does (pos paid) (pos 0) (transferOut (c .beneficiary) paid) noTransfer (afterLoss b (c .pool) paid)))
@@ -55,7 +55,7 @@ payOut b signer c =
 -- "Tier: capped amount minus what this offer was ever granted"; "Flat: amount"; both "at most balance minus reserved"
 abbrev pub grantable : Books → ReserveCall → ℤ
 grantable b c =
-    let granted = offerAt b (c .pool) (c .offer .0) .reserved in
+    let granted = offerAt b (c .pool) (c .offer) .reserved in
     minZ
     (cond (eqb (c .pool) flat) (c .amount) (pos (capped (c .pool) (up (c .amount))) -ℤ pos granted))
     (balanceOf b (c .pool) -ℤ pos (unpaidOf b (c .pool)))
@@ -63,7 +63,7 @@ grantable b c =
 -- the offer's row with n more reserved: "calls add up"
 abbrev pub grantedRow : Books → ReserveCall → ℕ → OfferRow
 grantedRow b c n =
-    let old = offerAt b (c .pool) (c .offer .0) in
+    let old = offerAt b (c .pool) (c .offer) in
     offerRow (c .pool) (c .offer .0) (old .reserved + n) (old .paid)
 
 -- the books after n is reserved
@@ -88,7 +88,7 @@ reservePayout b signer c =
 
 -- "Cover left is reserved minus paid"
 abbrev pub coverOf : Books → ClaimCall → ℕ
-coverOf b c = cover (offerAt b (c .pool) (c .offer .0))
+coverOf b c = cover (offerAt b (c .pool) (c .offer))
 
 -- "Tier: .. balance. Flat: .. balance minus other offers' unpaid reservations"
 abbrev pub available : Books → ClaimCall → ℤ
@@ -102,7 +102,7 @@ claimable b c = minZ (minZ (c .amount) (pos (coverOf b c))) (available b c)
 -- the offer's row with n more paid
 abbrev pub claimedRow : Books → ClaimCall → ℕ → OfferRow
 claimedRow b c n =
-    let old = offerAt b (c .pool) (c .offer .0) in
+    let old = offerAt b (c .pool) (c .offer) in
     offerRow (c .pool) (c .offer .0) (old .reserved) (old .paid + n)
 
 -- the books after n is paid on the offer: stakes, balance, the offer's row and the unpaid sum

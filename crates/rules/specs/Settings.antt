@@ -13,6 +13,13 @@ use Rattle.rules.specs.Sharing.{sharer}
 use Rattle.rules.specs.Calls.{Account, RateCall}
 use Rattle.rules.specs.Answers.{Plan, answers, _refuses_else_, notBy, Paused, NotAllowed, OverLimit}
 
+-- the first tests of both calls that a pause stops
+abbrev pub asAdmin : Books → Account → Plan → Plan
+asAdmin b signer p =
+    b .settings .paused refuses Paused else
+    notBy (b .settings .admin) signer refuses NotAllowed else
+    p
+
 -- a row of the flat pool, banked; "A zero stake isn't banked"
 abbrev pub bankedRow : Books → ℕ → StakeRow → StakeRow
 bankedRow b now r = cond (sharer flat r) (stakeRow (r .pool) (r .account) (r .stake) now (bankedAt b flat now r)) r
@@ -29,11 +36,10 @@ accrualsFit rows = each (λ r. leb (r .accrual) limit) rows
 unfoldable pub setYieldRate : Books → ℕ → Account → RateCall → Plan
 setYieldRate b now signer c =
     let s = b .settings in
-    s .paused refuses Paused else
-    notBy (s .admin) signer refuses NotAllowed else
-    ltZ (pos greatestRate) (c .rate) refuses OverLimit else
+    asAdmin b signer
+    (ltZ (pos greatestRate) (c .rate) refuses OverLimit else
     not (accrualsFit (bankAll b now)) refuses OverLimit else
-    answers (pos 0) (pos 0) (withSettings b (bankAll b now) (settings (s .admin) (s .caller) (s .paused) (up (c .rate))))
+    answers (pos 0) (pos 0) (withSettings b (bankAll b now) (settings (s .admin) (s .caller) (s .paused) (up (c .rate)))))
 
 -- pause, unpause: not stopped by a pause themselves
 unfoldable pub setPaused : Books → Account → Bool → Plan
@@ -46,6 +52,4 @@ setPaused b signer paused =
 unfoldable pub setPayoutCaller : Books → Account → Account → Plan
 setPayoutCaller b signer caller =
     let s = b .settings in
-    s .paused refuses Paused else
-    notBy (s .admin) signer refuses NotAllowed else
-    answers (pos 0) (pos 0) (withSettings b (b .stakes) (settings (s .admin) (caller .0) (s .paused) (s .rate)))
+    asAdmin b signer (answers (pos 0) (pos 0) (withSettings b (b .stakes) (settings (s .admin) caller (s .paused) (s .rate))))

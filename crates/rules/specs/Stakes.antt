@@ -14,7 +14,7 @@ use Rattle.rules.specs.Answers.{Plan, does, _refuses_else_, notBy, noTra
 
 -- the staker's row before the call
 abbrev pub oldStake : Books → StakeCall → StakeRow
-oldStake b c = stakeAt b (c .pool) (c .staker .0)
+oldStake b c = stakeAt b (c .pool) (c .staker)
 
 -- the staker's row after a stake: "bank at the old stake; else only set `since`. An old accrual stays"
 abbrev pub stakedRow : Books → ℕ → StakeCall → StakeRow
@@ -33,7 +33,7 @@ unfoldable pub stake : Books → ℕ → Account → StakeCall → Plan
 stake b now signer c =
     let row = stakedRow b now c in
     b .settings .paused refuses Paused else
-    notBy (c .staker .0) signer refuses NotAllowed else
+    notBy (c .staker) signer refuses NotAllowed else
     leZ (c .amount) (pos 0) refuses InvalidInput else
     ltZ (pos limit) (c .amount) refuses OverLimit else
     ltZ (row .stake) (pos leastStake) refuses InvalidInput else
@@ -63,7 +63,7 @@ unfoldable pub unstake : Books → ℕ → Account → StakeCall → Plan
 unstake b now signer c =
     let due = yieldDue b now c in
     b .settings .paused && not (eqb (c .pool) flat) refuses Paused else
-    notBy (c .staker .0) signer refuses NotAllowed else
+    notBy (c .staker) signer refuses NotAllowed else
     leZ (c .amount) (pos 0) refuses InvalidInput else
     overdrawn b c refuses InsufficientBalance else
     ltb limit due refuses OverLimit else

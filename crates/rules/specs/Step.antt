@@ -1,33 +1,22 @@
 -- A call on books: its answer, and the books after it. "Tests run in this order: 1, 2, 3, 4, 5, .. 11": 1 here, 2 in the layer that
 -- reads books from words, the others in each operation's plan.
 use mathlib.Core.Bool.{Bool, true, false, not}
-use mathlib.Core.List.{List, [], _∷_}
+use mathlib.Core.List.{List, _∷_}
 use Prim.Native.Nat.{ℕ}
-use lib.Dec.{leb, eqb}
-use lib.IntN.{pos}
-use lib.Signed.{leZ}
-use Rattle.rules.specs.Limits.{lastTime, flat, isPool, isNumber}
+use lib.Dec.{leb}
+use Rattle.rules.specs.Limits.{lastTime, isNumber}
 use Rattle.rules.specs.Table.{all}
 use Rattle.rules.specs.Books.{Books}
 use Rattle.rules.specs.Calls.{Account, Operation, Call, Stake, Withdraw, Pay, Reserve, Claim, Rate, Pause, Unpause, PayoutCaller, Unknown}
+use Rattle.rules.specs.Operations.{entryOf, entryTests}
 use Rattle.rules.specs.Answers.{Outcome, Plan, _refuses_else_, enact, Malformed}
 use Rattle.rules.specs.Stakes.{stake, unstake}
 use Rattle.rules.specs.Payouts.{payOut, reservePayout, claimPayout}
 use Rattle.rules.specs.Settings.{setYieldRate, setPaused, setPayoutCaller}
 
--- what an operation's own fields must meet: a known pool and reply, "number 0 where one is needed", a rate neither "negative" nor
--- "not of pool 3"; "unknown operation" meets nothing
+-- what an operation's own fields must meet: its line of the table
 abbrev pub fieldTests : Operation → List Bool
-fieldTests (Stake c) = isPool (c .pool) ∷ isNumber (c .staker .0) ∷ []
-fieldTests (Withdraw c) = isPool (c .pool) ∷ isNumber (c .staker .0) ∷ []
-fieldTests (Pay c) = isPool (c .pool) ∷ leb (c .reply) 2 ∷ isNumber (c .invoice .0) ∷ isNumber (c .beneficiary .0) ∷ []
-fieldTests (Reserve c) = isPool (c .pool) ∷ isNumber (c .offer .0) ∷ []
-fieldTests (Claim c) = isPool (c .pool) ∷ isNumber (c .offer .0) ∷ isNumber (c .lender .0) ∷ []
-fieldTests (Rate c) = eqb (c .pool) flat ∷ leZ (pos 0) (c .rate) ∷ []
-fieldTests Pause = []
-fieldTests Unpause = []
-fieldTests (PayoutCaller a) = isNumber (a .0) ∷ []
-fieldTests Unknown = false ∷ []
+fieldTests o = entryTests (entryOf o)
 
 -- code 1: "`now` too large", a signer that is no number, or a field that does not meet its need
 unfoldable pub malformed : Call → Bool

@@ -1,14 +1,11 @@
 -- A sorted table as a list of rows, and sums and tests over lists. A table is the Rust's `Map`: "sorted lent rows".
 use mathlib.Core.Bool.{Bool, true, false, cond}
 use mathlib.Core.List.{List, [], _∷_}
-use Prim.Native.Nat.{ℕ, _+_, _*_}
+use Prim.Native.Nat.{ℕ, zero, suc, _+_}
 use lib.Dec.{ltb, eqb}
 use lib.IntN.{ℤ, pos, _+ℤ_}
-use Rattle.rules.specs.Limits.{twoTo64}
-
 -- tier_key, tier_offer_key: rows ascend "by pool then number", which is the order of this one number
-abbrev pub keyOf : ℕ → ℕ → ℕ
-keyOf pool number = pool * twoTo64 + number
+pub use Rattle.rows.specs.Rows.{keyOf}
 
 module _ {A : Type 0} (key : A → ℕ) where
   -- Map::get(k).unwrap_or(d)
@@ -44,6 +41,11 @@ each f (x ∷ rows) = cond (f x) (each f rows) false
 -- whether all of some tests hold
 abbrev pub all : List Bool → Bool
 all tests = each (λ t. t) tests
+
+-- whether each number below n passes a test
+unfoldable pub eachBelow : ℕ → (ℕ → Bool) → Bool
+eachBelow zero f = true
+eachBelow (suc n) f = cond (f n) (eachBelow n f) false
 
 -- Map::len of the rows that pass a test
 unfoldable pub count : {A : Type 0} → (A → Bool) → List A → ℕ

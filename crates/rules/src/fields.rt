@@ -3,7 +3,7 @@ use crate::limits::LAST_TIME;
 ghost use mathlib.Core.Path.{_≡_};
 ghost use mathlib.Core.List.{[], _∷_};
 ghost use lib.Dec.{leb};
-ghost use Rattle.rules.specs.Limits.{lastTime, isPool, isNumber};
+ghost use Rattle.rules.specs.Limits.{lastTime, lastReply, isPool, isNumber};
 ghost use Rattle.rules.specs.Table.{all};
 
 pub fn is_pool(pool: u64) -> bool
@@ -17,7 +17,7 @@ pub fn is_pool(pool: u64) -> bool
 
 // The registry's.
 pub fn is_reply(reply: u64) -> bool
-    ensures { λ r. ⌜ r ≡ leb reply 2 ⌝ }
+    ensures { λ r. ⌜ r ≡ leb reply lastReply ⌝ }
 {
     match reply {
         0..=2 => true,

@@ -81,6 +81,16 @@ pub enum Operation {
     Unknown,
 }
 
+// An operation as a record of the log holds it: its number, and its fields, 0 where it has none.
+pub struct Entry {
+    pub number: u64,
+    pub pool: u64,
+    pub subject: u64,
+    pub other: u64,
+    pub reply: u64,
+    pub amount: i64,
+}
+
 pub struct Call {
     pub now: u64,
     pub signer: Account,

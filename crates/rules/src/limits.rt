@@ -4,10 +4,13 @@ pub const MOST_STAKES: usize = 1_024;
 
 pub const MOST_OFFERS: usize = 512;
 
-pub const LAST_POOL: u64 = 3;
+// The pool that the riskiest invoices go to.
+pub const AGGRESSIVE: u64 = 2;
 
 // The pool without a cap, whose rate is set and whose withdrawals work while paused.
 pub const FLAT: u64 = 3;
+
+pub const LAST_POOL: u64 = FLAT;
 
 pub const LAST_TIME: u64 = 17_179_869_183;
 

@@ -18,7 +18,7 @@ ghost use Rattle.rules.specs.Step.{fieldTests, malformed};
 fn pay_fields(c: PayCall) -> bool
     ensures { λ r. ⌜ r ≡ all (fieldTests (Pay c)) ⌝ }
 {
-    is_pool(c.pool) & is_reply(c.reply) & is_number(c.invoice.0) & is_number(c.beneficiary.0)
+    is_pool(c.pool) & is_number(c.invoice.0) & is_number(c.beneficiary.0) & is_reply(c.reply)
 }
 
 fn claim_fields(c: ClaimCall) -> bool

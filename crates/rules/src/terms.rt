@@ -5,6 +5,9 @@ ghost use lib.ListN.{getD};
 ghost use mir.Syntax.{w64};
 ghost use mir.Val.{toZ};
 ghost use Rattle.rules.specs.Terms.{tierParameters, yieldRate, capped, assessRisk, computeYield, point, yieldAnswer, elapsed, bankAccruedYield, bankedAnswer};
+ghost use Rattle.rules.specs.Limits.{limit, lastTime, greatestRate, pools, flat};
+use crate::limits::AGGRESSIVE;
+use crate::limits::FLAT;
 use crate::limits::LIMIT;
 use limbs::MulDiv;
 
@@ -22,7 +25,7 @@ pub struct TierTerms {
     pub cap: u64,
 }
 
-const TIERS: [TierTerms; 3] = [
+const TIERS: [TierTerms; FLAT as usize] = [
     TierTerms {
         apy: 200,
         cap: 5_000,
@@ -51,7 +54,7 @@ pub enum Banked {
 
 // The terms of a tier.
 pub fn tier_parameters(tier: usize) -> TierTerms
-    requires { ⌜ tier < 3 ⌝ }
+    requires { ⌜ tier < flat ⌝ }
     ensures { λ r. ⌜ (r .apy, r .cap) ≡ getD tierParameters tier (0, 0) ⌝ }
 {
     TIERS[tier]
@@ -59,10 +62,10 @@ pub fn tier_parameters(tier: usize) -> TierTerms
 
 // The yield rate of a pool: a tier's own, or the flat pool's, which the admin sets.
 pub fn yield_rate(flat: u64, pool: u64) -> u64
-    requires { ⌜ pool ≤ 3 ⌝ }
+    requires { ⌜ pool < pools ⌝ }
     ensures { λ r. ⌜ r ≡ yieldRate flat pool ⌝ }
 {
-    if pool == 3 {
+    if pool == FLAT {
         return flat;
     }
     let terms = tier_parameters(pool as usize);
@@ -71,10 +74,10 @@ pub fn yield_rate(flat: u64, pool: u64) -> u64
 
 // An amount as a pool's cap leaves it. The product can have more than 64 bits.
 pub fn capped_amount(pool: u64, amount: u64) -> u64
-    requires { ⌜ pool ≤ 3 ⌝ }
+    requires { ⌜ pool < pools ⌝ }
     ensures { λ r. ⌜ r ≡ capped pool amount ⌝ }
 {
-    if pool == 3 {
+    if pool == FLAT {
         return amount;
     }
     let terms = tier_parameters(pool as usize);
@@ -110,7 +113,7 @@ fn elapsed_secs(since: u64, time: u64) -> u64
 
 // An accrual with the yield of a stake banked at a time. `stake` is a signed word; a negative one earns nothing.
 pub fn bank_accrued_yield(rate: u64, time: u64, stake: u64, since: u64, accrual: u64) -> Banked
-    requires { ⌜ (rate ≤ 1_000_000) × (time ≤ 17_179_869_183) × (accrual ≤ 1_000_000_000_000_000) ⌝ }
+    requires { ⌜ (rate ≤ greatestRate) × (time ≤ lastTime) × (accrual ≤ limit) ⌝ }
     ensures { λ r. ⌜ r ≡ bankedAnswer (bankAccruedYield rate time (toZ w64 stake) since accrual) ⌝ }
 {
     if whole::is_negative(stake) {
@@ -140,11 +143,15 @@ pub fn assess_risk(age: u64, repayments: u32, defaults: u32, amount: i64) -> u64
     ensures { λ r. ⌜ r ≡ assessRisk age repayments defaults amount ⌝ }
 {
     if amount <= 0 {
-        return 2;
+        return AGGRESSIVE;
     }
     let old = point_of(RISK_AGE_SECS <= age);
     let failing = point_of(repayments < defaults);
     let large = point_of(RISK_LARGE_INVOICE_AMOUNT <= amount);
     let points = old + failing + large;
-    if 2 < points { 2 } else { points }
+    if AGGRESSIVE < points {
+        AGGRESSIVE
+    } else {
+        points
+    }
 }

@@ -1,6 +1,7 @@
--- Laws of the settings on words. `SettingsPlans`: the rungs of pause, unpause and payout caller. `RateRows`: rows as they are banked.
--- `RateWalk`: the walk that writes them. `RatePlans`: the rungs of the yield rate.
-pub mod SettingsPlans
+-- Laws of the settings on words. `Opening`: the first rungs. `Plans`: the rungs of each operation. `RateWords`: the rate as a word, and what banking asks.
+-- `RateRows`: rows as they are banked. `RateWalk`: the walk that writes them.
+pub mod Opening
+pub mod Plans
 pub mod RateRows
 pub mod RateWalk
-pub mod RatePlans
+pub mod RateWords

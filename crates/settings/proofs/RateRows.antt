@@ -1,17 +1,15 @@
 -- Rows as they are banked: one row, and the walk over all of them from the last row down.
 use mathlib.Core.Path.{_≡_, refl, sym, ap, _∙_, subst}
 use mathlib.Core.Bool.{Bool, true, false}
-use mathlib.Core.Logic.{_⊎_, inl, inr, ⊎-elim}
+use mathlib.Core.Logic.{⊎-elim}
 use mathlib.Core.List.{List, map}
 use Prim.Native.Nat.{ℕ, zero, suc, _+_, _-_, _≤_, _<_}
 use native.Mathlib.Omega.{arith}
 use borrow.Author.Tests.{not-true, ne-eqb, le-leb, ltb-true, ltb-false, lt-leb}
 use lib.Dec.{eqb, leb}
 use lib.ListN.{getD}
-use Rattle.rows.specs.Rows.{word, keyOf}
-use Rattle.rows.specs.Found.{placeOf}
-use Rattle.rows.specs.declared.Place.the-variants.{At, Gap}
-use Rattle.rows.proofs.Order.{lt-or-le, le-cases, false-true, found-at, found-gap}
+use Rattle.rows.specs.Rows.{word}
+use Rattle.rows.proofs.Order.{lt-or-le, le-cases, false-true}
 use Rattle.rules.specs.Limits.{limit, flat}
 use Rattle.rules.specs.Terms.{yieldRate, bankAccruedYield, bankedAnswer}
 use Rattle.rules.specs.declared.terms.Banked.{Banked}
@@ -22,20 +20,20 @@ use Rattle.rules.specs.Sharing.{sharer}
 use Rattle.rules.specs.Settings.{accrualsFit}
 use Rattle.rules.proofs.Tests.{and-right, each-first, each-more}
 use Rattle.rules.proofs.Conditions.{refuted}
+use Rattle.books.specs.Layout.{stakeWidth, poolWord, accrualWord, rateWord}
 use Rattle.books.specs.Tables.{usedOf, rowsFrom}
 use Rattle.books.specs.Words.{stakeRowAt, booksOf}
-use Rattle.books.specs.Held.{HeldStakes}
-use Rattle.books.specs.Banking.{Bankable}
+use Rattle.books.specs.inner.Banking.{Bankable}
 use Rattle.books.proofs.Accruals.{banked-to, banked-over}
 use Rattle.books.proofs.StakeRows.{held-ok}
-use Rattle.settings.specs.Rates.{bankedBy, bankedRows, FlatFrom, CanBank}
+use Rattle.settings.specs.inner.Banking.{bankedBy, bankedRows, CanBank}
 
 -- ---- one row
 
 module _ (b : List ℕ) (time : ℕ) (r : StakeRow) where
   -- its accrual as banked
   abbrev earned : ℕ
-  earned = bankAccruedYield (yieldRate (getD b 11 0) flat) time (r .stake) (r .since) (r .accrual)
+  earned = bankAccruedYield (yieldRate (getD b rateWord 0) flat) time (r .stake) (r .since) (r .accrual)
 
   -- whether it is within its limit
   abbrev pub fits : Bool
@@ -92,21 +90,21 @@ module _ (b : List ℕ) (time : ℕ) (s : List ℕ) where
     -- the rows before the flat ones are not banked
     pub others-stay : (j : ℕ) → j < from → bankedBy b time (stakeRowAt s j) ≡ stakeRowAt s j
     unfolding sharer
-    others-stay j l = other-row b time (stakeRowAt s j) (rw (ne-eqb (word s 5 j 0) flat (λ e. omega (arith, k .flats .below j l, e))))
+    others-stay j l = other-row b time (stakeRowAt s j) (rw (ne-eqb (word s stakeWidth j poolWord) flat (λ e. omega (arith, k .below j l, e))))
 
     others-fit : (j : ℕ) → j < from → Fits j
-    others-fit j l = ap (λ (r : StakeRow). leb (r .accrual) limit) (others-stay j l) ∙ le-leb (word s 5 j 4) limit (held-ok s n (k .held) j (omega (arith, k .flats .most)) .accrued)
+    others-fit j l = ap (λ (r : StakeRow). leb (r .accrual) limit) (others-stay j l) ∙ le-leb (word s stakeWidth j accrualWord) limit (held-ok s n (k .held) j (omega (arith, k .most)) .accrued)
 
     pub all-fit : ((j : ℕ) → from ≤ j → j < n → Fits j) → true ≡ accrualsFit (bankedRows s b time)
-    all-fit h = sym (fits-all 0 (usedOf 5 s) (λ j p q. ⊎-elim (others-fit j) (λ l. h j l (omega (arith, k .held .table .used))) (lt-or-le j from)))
+    all-fit h = sym (fits-all 0 (usedOf stakeWidth s) (λ j p q. ⊎-elim (others-fit j) (λ l. h j l (omega (arith, k .held .table .used))) (lt-or-le j from)))
 
     pub one-over : (j : ℕ) → j < n → fits b time (stakeRowAt s j) ≡ false → false ≡ accrualsFit (bankedRows s b time)
-    one-over j l e = refuted _ (λ t. false-true (sym e ∙ fits-at 0 (usedOf 5 s) t j (omega arith) (omega (arith, k .held .table .used))))
+    one-over j l e = refuted _ (λ t. false-true (sym e ∙ fits-at 0 (usedOf stakeWidth s) t j (omega arith) (omega (arith, k .held .table .used))))
 
     -- what a row's banking asks
-    pub row-can : (j : ℕ) → j < n → Bankable b flat time (word s 5 j 4)
+    pub row-can : (j : ℕ) → j < n → Bankable b flat time (word s stakeWidth j accrualWord)
     row-can j l = record {
-      twelve = k .twelve;
+      sized = k .sized;
       rate = k .rate;
       pool-is = omega arith;
       time-is = k .time-is;
@@ -116,18 +114,3 @@ module _ (b : List ℕ) (time : ℕ) (s : List ℕ) where
   -- one row more, from the last row down
   pub fits-down : (i n : ℕ) → 0 < i → ((j : ℕ) → i ≤ j → j < n → Fits j) → Fits (i - 1) → (j : ℕ) → i - 1 ≤ j → j < n → Fits j
   fits-down i n some h e j p q = ⊎-elim (λ f. subst Fits f e) (λ l. h j (omega arith) q) (le-cases (i - 1) j p)
-
--- ---- the flat rows are the last
-
-pub flats-from : (s : List ℕ) (n : ℕ) → HeldStakes s n → (i : ℕ) → (placeOf s 5 n (keyOf flat 0) ≡ At i) ⊎ (placeOf s 5 n (keyOf flat 0) ≡ Gap i) → FlatFrom s n i
-flats-from s n h i (inl e) =
-    let p = found-at s 5 n (keyOf flat 0) i (h .table .sorted) e in
-    let ok = held-ok s n h i (p .0) .number in
-    absurd (omega (arith, p .1, ok .some, ok .word))
-flats-from s n h i (inr e) =
-    let p = found-gap s 5 n (keyOf flat 0) i (h .table .sorted) e in
-    record {
-      most = p .hi-le;
-      below = λ j l. omega (arith, p .below j l);
-      mine = λ j l m. let ok = held-ok s n h j m in omega (arith, p .above j l m, ok .number .word, ok .pool);
-    }

@@ -1,16 +1,12 @@
-// The yield rate: every flat stake is banked at the old rate before the new one is stored. Settled by a pass that only reads, then written.
-use crate::admin::not_by_admin;
+// The yield rate: every flat stake is banked at the old rate before the new one is stored. Settled by a pass that only reads, then rowWritten.
+use crate::admin::admin_code;
 use crate::admin::stored;
 use books::Stake;
-use books::layout::STAKE_WIDTH;
-use rows::Place;
 use rules::Account;
 use rules::Answer;
 use rules::Banked;
 use rules::RateCall;
-use rules::codes::NOT_ALLOWED;
 use rules::codes::OVER_LIMIT;
-use rules::codes::PAUSED;
 use rules::limits::FLAT;
 use rules::limits::GREATEST_RATE;
 use rules::refuse;
@@ -19,29 +15,21 @@ ghost use mathlib.Core.Bool.{true};
 ghost use Prim.Native.Nat.{_+_, _*_, _≤_};
 ghost use lib.Dec.{leb};
 ghost use lib.ListN.{length};
-ghost use Rattle.rows.specs.Rows.{word, written};
-ghost use Rattle.rules.specs.Limits.{limit};
+ghost use Rattle.rows.specs.Rows.{word};
+ghost use Rattle.rows.specs.inner.Moves.{rowWritten};
+ghost use Rattle.rules.specs.Limits.{limit, flat};
 ghost use Rattle.rules.specs.Settings.{accrualsFit, setYieldRate};
+ghost use Rattle.books.specs.Layout.{stakeWidth, accrualWord};
 ghost use Rattle.books.specs.Tables.{roomOf, tableWords};
 ghost use Rattle.books.specs.Words.{tables, stakeRowAt, stakeWords, booksOf, goodTables, result, acted};
-ghost use Rattle.books.specs.Held.{stakeOf, HeldStakes};
-ghost use Rattle.books.specs.Banking.{Bankable};
-ghost use Rattle.settings.specs.Rates.{RateAsked, bankedBy, bankedRows, FlatFrom, CanBank};
-
-// The first row of the flat pool, whose rows are the last: no account is 0, so they begin at the place of account 0.
-fn first_flat(stakes: &[u64], used: usize) -> usize
-    requires { ⌜ HeldStakes (now stakes) used ⌝ }
-    ensures { λ r. ⌜ FlatFrom (now (stakes .entry)) used r ⌝ }
-{
-    match rows::find(stakes, STAKE_WIDTH, used, FLAT, 0) {
-        Place::At(i) => i,
-        Place::Gap(i) => i,
-    }
-}
+ghost use Rattle.books.specs.inner.Held.{stakeOf};
+ghost use Rattle.books.specs.inner.Banking.{Bankable};
+ghost use Rattle.settings.specs.Rates.{RateAsked};
+ghost use Rattle.settings.specs.inner.Banking.{bankedBy, bankedRows, CanBank};
 
 // Whether a row, as it is banked, keeps to the limit of an accrual.
 fn row_fits(books: &[u64], row: Stake, time: u64) -> bool
-    requires { ⌜ Bankable (now books) 3 time (row .accrual) ⌝ }
+    requires { ⌜ Bankable (now books) flat time (row .accrual) ⌝ }
     ensures { λ r. ⌜ r ≡ leb (bankedBy (now (books .entry)) time (stakeOf row) .accrual) limit ⌝ }
 {
     if !books::is_sharer(row, FLAT) {
@@ -70,10 +58,10 @@ fn rows_fit(stakes: &[u64], books: &[u64], from: usize, used: usize, time: u64) 
 
 // Writes row i as it is banked, where it keeps to the limit.
 fn bank_row(stakes: &mut [u64], books: &[u64], i: usize, time: u64)
-    requires { ⌜ i * 5 + 5 ≤ length (now stakes) ⌝ }
-    requires { ⌜ Bankable (now books) 3 time (word (now stakes) 5 i 4) ⌝ }
+    requires { ⌜ i * stakeWidth + stakeWidth ≤ length (now stakes) ⌝ }
+    requires { ⌜ Bankable (now books) flat time (word (now stakes) stakeWidth i accrualWord) ⌝ }
     requires { ⌜ bankedBy (now books) time (stakeRowAt (now stakes) i) .accrual ≤ limit ⌝ }
-    ensures { λ _. ⌜ now (stakes .exit) ≡ written (now (stakes .entry)) 5 i (stakeWords (bankedBy (now (books .entry)) time (stakeRowAt (now (stakes .entry)) i))) ⌝ }
+    ensures { λ _. ⌜ now (stakes .exit) ≡ rowWritten (now (stakes .entry)) stakeWidth i (stakeWords (bankedBy (now (books .entry)) time (stakeRowAt (now (stakes .entry)) i))) ⌝ }
 {
     let row = books::stake_at(stakes, i);
     if !books::is_sharer(row, FLAT) {
@@ -98,7 +86,7 @@ fn bank_row(stakes: &mut [u64], books: &[u64], i: usize, time: u64)
 fn bank_rows(stakes: &mut [u64], books: &[u64], from: usize, used: usize, time: u64)
     requires { ⌜ CanBank (now stakes) (now books) from used time ⌝ }
     requires { ⌜ accrualsFit (bankedRows (now stakes) (now books) time) ≡ true ⌝ }
-    ensures { λ _. ⌜ now (stakes .exit) ≡ tableWords stakeWords 5 (roomOf 5 (now (stakes .entry))) (bankedRows (now (stakes .entry)) (now (books .entry)) time) ⌝ }
+    ensures { λ _. ⌜ now (stakes .exit) ≡ tableWords stakeWords stakeWidth (roomOf stakeWidth (now (stakes .entry))) (bankedRows (now (stakes .entry)) (now (books .entry)) time) ⌝ }
 {
     let mut i: usize = used;
     while from < i {
@@ -119,18 +107,16 @@ pub fn set_yield_rate(
     requires { ⌜ RateAsked time c ⌝ }
     ensures { λ r. ⌜ result r (tables (now (stakes .exit)) (now (offers .entry)) (now (books .exit))) ≡ acted (tables (now (stakes .entry)) (now (offers .entry)) (now (books .entry))) (setYieldRate (booksOf (tables (now (stakes .entry)) (now (offers .entry)) (now (books .entry)))) time signer c) ⌝ }
 {
-    if books::is_paused(books) {
-        return refuse(PAUSED);
-    }
-    if not_by_admin(books, signer) {
-        return refuse(NOT_ALLOWED);
+    let code = admin_code(books, signer, true);
+    if code != 0 {
+        return refuse(code);
     }
     let rate = whole::to_word(c.rate);
     if GREATEST_RATE < rate {
         return refuse(OVER_LIMIT);
     }
     let used = books::used_stakes(stakes);
-    let from = first_flat(stakes, used);
+    let from = books::pool_start(stakes, used, FLAT);
     if !rows_fit(stakes, books, from, used, time) {
         return refuse(OVER_LIMIT);
     }

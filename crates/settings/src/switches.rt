@@ -1,10 +1,8 @@
 // Pause, unpause, payout caller.
-use crate::admin::not_by_admin;
+use crate::admin::admin_code;
 use crate::admin::stored;
 use rules::Account;
 use rules::Answer;
-use rules::codes::NOT_ALLOWED;
-use rules::codes::PAUSED;
 use rules::refuse;
 ghost use mathlib.Core.Path.{_≡_};
 ghost use mathlib.Core.Bool.{true};
@@ -22,8 +20,9 @@ pub fn set_paused(
     requires { ⌜ goodTables (tables (now stakes) (now offers) (now books)) ≡ true ⌝ }
     ensures { λ r. ⌜ result r (tables (now (stakes .entry)) (now (offers .entry)) (now (books .exit))) ≡ acted (tables (now (stakes .entry)) (now (offers .entry)) (now (books .entry))) (setPaused (booksOf (tables (now (stakes .entry)) (now (offers .entry)) (now (books .entry)))) signer paused) ⌝ }
 {
-    if not_by_admin(books, signer) {
-        return refuse(NOT_ALLOWED);
+    let code = admin_code(books, signer, false);
+    if code != 0 {
+        return refuse(code);
     }
     books::set_paused(books, paused);
     stored()
@@ -39,11 +38,9 @@ pub fn set_payout_caller(
     requires { ⌜ goodTables (tables (now stakes) (now offers) (now books)) ≡ true ⌝ }
     ensures { λ r. ⌜ result r (tables (now (stakes .entry)) (now (offers .entry)) (now (books .exit))) ≡ acted (tables (now (stakes .entry)) (now (offers .entry)) (now (books .entry))) (setPayoutCaller (booksOf (tables (now (stakes .entry)) (now (offers .entry)) (now (books .entry)))) signer caller) ⌝ }
 {
-    if books::is_paused(books) {
-        return refuse(PAUSED);
-    }
-    if not_by_admin(books, signer) {
-        return refuse(NOT_ALLOWED);
+    let code = admin_code(books, signer, true);
+    if code != 0 {
+        return refuse(code);
     }
     books::set_payout_caller(books, caller);
     stored()

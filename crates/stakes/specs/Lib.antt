@@ -1,2 +1,3 @@
--- The definitions that the contracts of this floor cite.
+-- What a call asks (Staking), and the contracts of private functions (inner).
 pub mod Staking
+pub mod inner

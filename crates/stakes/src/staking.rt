@@ -1,9 +1,12 @@
 // Stake: settled on the staker's row, then written.
 use crate::staker::Ask;
+use crate::staker::Change;
+use crate::staker::RowFigures;
 use crate::staker::Settled;
+use crate::staker::ask_of;
+use crate::staker::commit;
 use crate::staker::row_of;
 use crate::staker::staker_code;
-use crate::staker::write_row;
 use books::banked_of;
 use books::layout::STAKE_WIDTH;
 use rules::Account;
@@ -13,27 +16,52 @@ use rules::StakeCall;
 use rules::codes::INVALID_INPUT;
 use rules::codes::OVER_LIMIT;
 use rules::codes::TABLE_FULL;
-use rules::finish;
 use rules::limits::LIMIT;
 use rules::limits::MIN_STAKE_AMOUNT;
 use rules::no_transfer;
-use rules::refuse;
 use rules::transfer_in;
 ghost use mathlib.Core.Path.{_≡_};
 ghost use mathlib.Core.Bool.{true, _&&_};
 ghost use lib.Dec.{leb};
 ghost use Rattle.rules.specs.Books.{stakeGone};
 ghost use Rattle.rules.specs.Stakes.{stake};
+ghost use Rattle.books.specs.Layout.{stakeWidth};
 ghost use Rattle.books.specs.Tables.{roomOf};
 ghost use Rattle.books.specs.Words.{tables, booksOf, goodTables, result, acted};
-ghost use Rattle.books.specs.Held.{stakeOf};
-ghost use Rattle.stakes.specs.Staking.{StakeAsked, askOf, staking, Stakes, StakeSettled};
+ghost use Rattle.books.specs.inner.Held.{stakeOf};
+ghost use Rattle.stakes.specs.Staking.{StakeAsked};
+ghost use Rattle.stakes.specs.inner.Figures.{askOf, Stakes};
+ghost use Rattle.stakes.specs.inner.Changes.{StakeChange, StakeSettled};
 
 // Whether a staker's row is a new one that no row is free for.
 fn no_room(stakes: &[u64], used: usize, row: books::Stake) -> bool
-    ensures { λ r. ⌜ r ≡ (stakeGone (stakeOf row) && leb (roomOf 5 (now (stakes .entry))) used) ⌝ }
+    ensures { λ r. ⌜ r ≡ (stakeGone (stakeOf row) && leb (roomOf stakeWidth (now (stakes .entry))) used) ⌝ }
 {
     (row.stake == 0) & (row.accrual == 0) & (stakes.len() / STAKE_WIDTH <= used)
+}
+
+// What is written of a stake that was settled. Of stakes and offers only the contract speaks.
+fn stake_change(
+    stakes: &[u64],
+    offers: &[u64],
+    books: &[u64],
+    time: u64,
+    c: Ask,
+    f: RowFigures,
+) -> Change
+    requires { ⌜ goodTables (tables (now stakes) (now offers) (now books)) ≡ true ⌝ }
+    requires { ⌜ StakeAsked time (askOf c) ⌝ }
+    requires { ⌜ Stakes (tables (now stakes) (now offers) (now books)) time (askOf c) f ⌝ }
+    ensures { λ r. ⌜ StakeChange (tables (now (stakes .entry)) (now (offers .entry)) (now (books .entry))) time (askOf c) r ⌝ }
+{
+    let balance = whole::add(books::balance(books, c.pool), c.amount);
+    Change {
+        used: f.used,
+        row: row_of(c, f.stake, time, f.accrual),
+        balance,
+        one: transfer_in(c.staker, c.amount),
+        two: no_transfer(),
+    }
 }
 
 // Settles a stake. Nothing is written, and of the offers only the contract speaks.
@@ -70,36 +98,15 @@ fn settle_stake(
             if no_room(stakes, used, row) {
                 return Settled::Refused(TABLE_FULL);
             }
-            Settled::Row {
+            let f = RowFigures {
                 used,
                 stake,
                 accrual,
-            }
+            };
+            Settled::Writes(stake_change(stakes, offers, books, time, c, f))
         }
         Banked::OverLimit => Settled::Refused(OVER_LIMIT),
     }
-}
-
-// Writes a stake that was settled: the staker's row and the balance.
-fn commit_stake(
-    stakes: &mut [u64],
-    offers: &[u64],
-    books: &mut [u64],
-    time: u64,
-    c: Ask,
-    used: usize,
-    stake: u64,
-    accrual: u64,
-) -> Answer
-    requires { ⌜ goodTables (tables (now stakes) (now offers) (now books)) ≡ true ⌝ }
-    requires { ⌜ StakeAsked time (askOf c) ⌝ }
-    requires { ⌜ Stakes (tables (now stakes) (now offers) (now books)) time (askOf c) used stake accrual ⌝ }
-    ensures { λ r. ⌜ result r (tables (now (stakes .exit)) (now (offers .entry)) (now (books .exit))) ≡ acted (tables (now (stakes .entry)) (now (offers .entry)) (now (books .entry))) (staking (booksOf (tables (now (stakes .entry)) (now (offers .entry)) (now (books .entry)))) time (askOf c)) ⌝ }
-{
-    let balance = whole::add(books::balance(books, c.pool), c.amount);
-    let row = row_of(c, stake, time, accrual);
-    write_row(stakes, offers, books, used, row, balance);
-    finish(0, 0, transfer_in(c.staker, c.amount), no_transfer())
 }
 
 // A stake on lent words.
@@ -115,19 +122,6 @@ pub fn stake(
     requires { ⌜ StakeAsked time c ⌝ }
     ensures { λ r. ⌜ result r (tables (now (stakes .exit)) (now (offers .entry)) (now (books .exit))) ≡ acted (tables (now (stakes .entry)) (now (offers .entry)) (now (books .entry))) (stake (booksOf (tables (now (stakes .entry)) (now (offers .entry)) (now (books .entry)))) time signer c) ⌝ }
 {
-    let staker = c.staker;
-    let amount = whole::to_word(c.amount);
-    let ask = Ask {
-        pool: c.pool,
-        staker,
-        amount,
-    };
-    match settle_stake(stakes, offers, books, time, signer, ask) {
-        Settled::Refused(code) => refuse(code),
-        Settled::Row {
-            used,
-            stake,
-            accrual,
-        } => commit_stake(stakes, offers, books, time, ask, used, stake, accrual),
-    }
+    let settled = settle_stake(stakes, offers, books, time, signer, ask_of(c));
+    commit(stakes, offers, books, settled)
 }

@@ -1,9 +1,12 @@
 // Withdraw: settled on the staker's row, then written.
 use crate::staker::Ask;
+use crate::staker::Change;
+use crate::staker::RowFigures;
 use crate::staker::Settled;
+use crate::staker::ask_of;
+use crate::staker::commit;
 use crate::staker::row_of;
 use crate::staker::staker_code;
-use crate::staker::write_row;
 use books::banked_of;
 use rules::Account;
 use rules::Answer;
@@ -12,26 +15,62 @@ use rules::StakeCall;
 use rules::Transfer;
 use rules::codes::INSUFFICIENT_BALANCE;
 use rules::codes::OVER_LIMIT;
-use rules::finish;
 use rules::limits::FLAT;
 use rules::no_transfer;
-use rules::refuse;
 use rules::transfer_out;
 ghost use mathlib.Core.Path.{_≡_};
 ghost use mathlib.Core.Bool.{true, not, cond, _&&_};
 ghost use lib.Dec.{eqb};
 ghost use lib.ListN.{getD, length};
+ghost use Rattle.rules.specs.Limits.{flat};
 ghost use Rattle.rules.specs.Answers.{noTransfer, transferOut};
 ghost use Rattle.rules.specs.Stakes.{unstake};
+ghost use Rattle.books.specs.Layout.{booksWords, pausedWord};
 ghost use Rattle.books.specs.Words.{tables, booksOf, goodTables, result, acted};
-ghost use Rattle.stakes.specs.Staking.{StakeAsked, askOf, unstaking, Unstakes, UnstakeSettled};
+ghost use Rattle.stakes.specs.Staking.{StakeAsked};
+ghost use Rattle.stakes.specs.inner.Figures.{askOf, Unstakes};
+ghost use Rattle.stakes.specs.inner.Changes.{UnstakeChange, UnstakeSettled};
 
 // Whether a pause bars a withdrawal.
 fn is_barred(books: &[u64], pool: u64) -> bool
-    requires { ⌜ length (now books) ≡ 12 ⌝ }
-    ensures { λ r. ⌜ r ≡ (not (eqb (getD (now (books .entry)) 10 0) 0) && not (eqb pool 3)) ⌝ }
+    requires { ⌜ length (now books) ≡ booksWords ⌝ }
+    ensures { λ r. ⌜ r ≡ (not (eqb (getD (now (books .entry)) pausedWord 0) 0) && not (eqb pool flat)) ⌝ }
 {
     books::is_paused(books) & (pool != FLAT)
+}
+
+// The transfer of a yield, where one is due.
+fn yield_out(staker: Account, due: u64) -> Transfer
+    ensures { λ r. ⌜ r ≡ cond (eqb due 0) noTransfer (transferOut staker due) ⌝ }
+{
+    if due == 0 {
+        return no_transfer();
+    }
+    transfer_out(staker, due)
+}
+
+// What is written of a withdrawal that was settled. The yield doesn't lower the balance. Of stakes and offers only the contract speaks.
+fn unstake_change(
+    stakes: &[u64],
+    offers: &[u64],
+    books: &[u64],
+    time: u64,
+    c: Ask,
+    f: RowFigures,
+) -> Change
+    requires { ⌜ goodTables (tables (now stakes) (now offers) (now books)) ≡ true ⌝ }
+    requires { ⌜ StakeAsked time (askOf c) ⌝ }
+    requires { ⌜ Unstakes (tables (now stakes) (now offers) (now books)) time (askOf c) f ⌝ }
+    ensures { λ r. ⌜ UnstakeChange (tables (now (stakes .entry)) (now (offers .entry)) (now (books .entry))) time (askOf c) r ⌝ }
+{
+    let balance = whole::sub(books::balance(books, c.pool), c.amount);
+    Change {
+        used: f.used,
+        row: row_of(c, f.stake, time, 0),
+        balance,
+        one: transfer_out(c.staker, c.amount),
+        two: yield_out(c.staker, f.accrual),
+    }
 }
 
 // Settles a withdrawal, alike.
@@ -58,50 +97,16 @@ fn settle_unstake(
     }
     let stake = whole::sub(row.stake, c.amount);
     match banked_of(books, row, c.pool, time) {
-        Banked::To(accrual) => Settled::Row {
-            used,
-            stake,
-            accrual,
-        },
+        Banked::To(accrual) => {
+            let f = RowFigures {
+                used,
+                stake,
+                accrual,
+            };
+            Settled::Writes(unstake_change(stakes, offers, books, time, c, f))
+        }
         Banked::OverLimit => Settled::Refused(OVER_LIMIT),
     }
-}
-
-// The transfer of a yield, where one is due.
-fn yield_out(staker: Account, due: u64) -> Transfer
-    ensures { λ r. ⌜ r ≡ cond (eqb due 0) noTransfer (transferOut staker due) ⌝ }
-{
-    if due == 0 {
-        return no_transfer();
-    }
-    transfer_out(staker, due)
-}
-
-// Writes a withdrawal that was settled: the staker's row and the balance, which the yield doesn't lower.
-fn commit_unstake(
-    stakes: &mut [u64],
-    offers: &[u64],
-    books: &mut [u64],
-    time: u64,
-    c: Ask,
-    used: usize,
-    stake: u64,
-    accrual: u64,
-) -> Answer
-    requires { ⌜ goodTables (tables (now stakes) (now offers) (now books)) ≡ true ⌝ }
-    requires { ⌜ StakeAsked time (askOf c) ⌝ }
-    requires { ⌜ Unstakes (tables (now stakes) (now offers) (now books)) time (askOf c) used stake accrual ⌝ }
-    ensures { λ r. ⌜ result r (tables (now (stakes .exit)) (now (offers .entry)) (now (books .exit))) ≡ acted (tables (now (stakes .entry)) (now (offers .entry)) (now (books .entry))) (unstaking (booksOf (tables (now (stakes .entry)) (now (offers .entry)) (now (books .entry)))) time (askOf c)) ⌝ }
-{
-    let balance = whole::sub(books::balance(books, c.pool), c.amount);
-    let row = row_of(c, stake, time, 0);
-    write_row(stakes, offers, books, used, row, balance);
-    finish(
-        0,
-        0,
-        transfer_out(c.staker, c.amount),
-        yield_out(c.staker, accrual),
-    )
 }
 
 // A withdrawal on lent words.
@@ -117,19 +122,6 @@ pub fn unstake(
     requires { ⌜ StakeAsked time c ⌝ }
     ensures { λ r. ⌜ result r (tables (now (stakes .exit)) (now (offers .entry)) (now (books .exit))) ≡ acted (tables (now (stakes .entry)) (now (offers .entry)) (now (books .entry))) (unstake (booksOf (tables (now (stakes .entry)) (now (offers .entry)) (now (books .entry)))) time signer c) ⌝ }
 {
-    let staker = c.staker;
-    let amount = whole::to_word(c.amount);
-    let ask = Ask {
-        pool: c.pool,
-        staker,
-        amount,
-    };
-    match settle_unstake(stakes, offers, books, time, signer, ask) {
-        Settled::Refused(code) => refuse(code),
-        Settled::Row {
-            used,
-            stake,
-            accrual,
-        } => commit_unstake(stakes, offers, books, time, ask, used, stake, accrual),
-    }
+    let settled = settle_unstake(stakes, offers, books, time, signer, ask_of(c));
+    commit(stakes, offers, books, settled)
 }

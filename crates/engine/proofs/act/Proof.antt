@@ -19,26 +19,11 @@ st c = c .before .before .before .before
 formed : (c : tie.Else1) → malformed (st (c .before) .args .call) ≡ false
 formed c = sym (c .before .is-malformed .ensures) ∙ c .if1 .left
 
-is-malformed-requires : tie.Need-is-malformed-requires
-is-malformed-requires c κs = search needs
-
-refuse-requires : tie.Need-refuse-requires
-refuse-requires c κs = search needs
-
 returns : tie.Need-returns
 returns c = let s = st (c .before .before) in ap (λ (r : Answer). result r (given s)) (c .refuse .ensures) ∙ step-malformed (given s) (s .args .call) (sym (c .before .before .is-malformed .ensures) ∙ c .before .if1 .taken)
 
 operate-requires : tie.Need-operate-requires
 operate-requires c κs = let e = c .before .before .before in (st (e .before) .pre, formed e)
-
-same-length : tie.Need-same-length
-same-length c = search needs
-
-same-length-2 : tie.Need-same-length-2
-same-length-2 c = search needs
-
-same-length-3 : tie.Need-same-length-3
-same-length-3 c = search needs
 
 returns-2 : tie.Need-returns-2
 returns-2 c =
@@ -50,11 +35,11 @@ pub act-spec : {M : Type 1} → statement M
 act-spec =
     tie.close
     (tie.spec
-    is-malformed-requires
-    refuse-requires
+    (λ c κs. search needs)
+    (λ c κs. search needs)
     returns
     operate-requires
-    same-length
-    same-length-2
-    same-length-3
+    (λ c. search needs)
+    (λ c. search needs)
+    (λ c. search needs)
     returns-2)

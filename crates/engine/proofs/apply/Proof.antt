@@ -26,29 +26,8 @@ tested c = c .before .before .before .before
 good : (c : tie.Else2) → goodTables (given (st (tested (c .before) .before))) ≡ true
 good c = sym (c .before .tables-well-formed .ensures) ∙ not-false _ (c .if2 .left)
 
-is-malformed-requires : tie.Need-is-malformed-requires
-is-malformed-requires c κs = search needs
-
-refuse-requires : tie.Need-refuse-requires
-refuse-requires c κs = search needs
-
 returns : tie.Need-returns
 returns c = let s = st (c .before .before) in ap (λ (r : Answer). result r (given s)) (c .refuse .ensures) ∙ step-malformed (given s) (s .args .call) (sym (c .before .before .is-malformed .ensures) ∙ c .before .if1 .taken)
-
-tables-well-formed-requires : tie.Need-tables-well-formed-requires
-tables-well-formed-requires c κs = search needs
-
-refuse-requires-2 : tie.Need-refuse-requires-2
-refuse-requires-2 c κs = search needs
-
-same-length : tie.Need-same-length
-same-length c = search needs
-
-same-length-2 : tie.Need-same-length-2
-same-length-2 c = search needs
-
-same-length-3 : tie.Need-same-length-3
-same-length-3 c = search needs
 
 returns-2 : tie.Need-returns-2
 returns-2 c =
@@ -59,15 +38,6 @@ returns-2 c =
 
 operate-requires : tie.Need-operate-requires
 operate-requires c κs = let e = c .before .before .before in (good e, formed (tested (e .before)))
-
-same-length-4 : tie.Need-same-length-4
-same-length-4 c = search needs
-
-same-length-5 : tie.Need-same-length-5
-same-length-5 c = search needs
-
-same-length-6 : tie.Need-same-length-6
-same-length-6 c = search needs
 
 returns-3 : tie.Need-returns-3
 returns-3 c =
@@ -80,17 +50,17 @@ pub apply-spec : {M : Type 1} → statement M
 apply-spec =
     tie.close
     (tie.spec
-    is-malformed-requires
-    refuse-requires
+    (λ c κs. search needs)
+    (λ c κs. search needs)
     returns
-    tables-well-formed-requires
-    refuse-requires-2
-    same-length
-    same-length-2
-    same-length-3
+    (λ c κs. search needs)
+    (λ c κs. search needs)
+    (λ c. search needs)
+    (λ c. search needs)
+    (λ c. search needs)
     returns-2
     operate-requires
-    same-length-4
-    same-length-5
-    same-length-6
+    (λ c. search needs)
+    (λ c. search needs)
+    (λ c. search needs)
     returns-3)

@@ -5,12 +5,6 @@ use Rattle.limbs.proofs.Cases.{exact, too-large}
 use Rattle.limbs.proofs.mul_div.Statement.{statement}
 use Rattle.limbs.proofs.mul_div.Tie as tie
 
-product-requires : tie.Need-product-requires
-product-requires c κs = search needs
-
-divide-requires : tie.Need-divide-requires
-divide-requires c κs = search needs
-
 returns : tie.Need-returns
 returns c =
     let p = c .before .before .before in
@@ -22,4 +16,4 @@ returns-2 c =
     too-large _ _ _ (p .product .result .high) (p .product .result .low) (p .product .ensures) (c .if1 .left)
 
 pub mul-div-spec : {M : Type 1} → statement M
-mul-div-spec = tie.close (tie.spec product-requires divide-requires returns returns-2)
+mul-div-spec = tie.close (tie.spec (λ c κs. search needs) (λ c κs. search needs) returns returns-2)

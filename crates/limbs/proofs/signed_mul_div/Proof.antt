@@ -33,15 +33,6 @@ r c = c .quotient .given .0 .1 .0
 exactly : (c : tie.After-quotient) → (let s = st (c .before .before) in Exactly (natAbs (x s)) (s .args .m) (s .args .d) (q c) (r c))
 exactly c = let s = st (c .before .before) in exact-read (natAbs (x s)) (s .args .m) (s .args .d) (q c) (r c) (sym (c .quotient .given .1) ∙ answered (c .before .before))
 
-magnitude-requires : tie.Need-magnitude-requires
-magnitude-requires c κs = search needs
-
-mul-div-requires : tie.Need-mul-div-requires
-mul-div-requires c κs = search needs
-
-enum-known-quotient : tie.Need-enum-known-quotient
-enum-known-quotient c = search needs
-
 returns : tie.Need-returns
 returns c =
     let e = c .before .before in
@@ -53,18 +44,6 @@ returns-2 c =
     let e = c .before .before .before in
     let s = st (e .before .before) in
     remainder-over (x s) (s .args .m) (s .args .d) (q e) (r e) (exactly e) (omega arith) (omega arith)
-
-is-negative-requires : tie.Need-is-negative-requires
-is-negative-requires c κs = search needs
-
-signed-requires : tie.Need-signed-requires
-signed-requires c κs = search needs
-
-signed-requires-2 : tie.Need-signed-requires-2
-signed-requires-2 c κs = search needs
-
-enum-told : tie.Need-enum-told
-enum-told c = search needs
 
 returns-3 : tie.Need-returns-3
 returns-3 c =
@@ -84,14 +63,14 @@ pub signed-mul-div-spec : {M : Type 1} → statement M
 signed-mul-div-spec =
     tie.close
     (tie.spec
-    magnitude-requires
-    mul-div-requires
-    enum-known-quotient
+    (λ c κs. search needs)
+    (λ c κs. search needs)
+    (λ c. search needs)
     returns
     returns-2
-    is-negative-requires
-    signed-requires
-    signed-requires-2
-    enum-told
+    (λ c κs. search needs)
+    (λ c κs. search needs)
+    (λ c κs. search needs)
+    (λ c. search needs)
     returns-3
     returns-4)

@@ -10,9 +10,6 @@ use borrow.Author.Needs.{needs}
 use Rattle.pasumorip.proofs.pasumorip_assess_risk.Statement.{statement}
 use Rattle.pasumorip.proofs.pasumorip_assess_risk.Tie as tie
 
-assess-risk-requires : tie.Need-assess-risk-requires
-assess-risk-requires c κs = search needs
-
 cast-result : tie.Need-cast-result
 cast-result c =
     let a = c .before .args in
@@ -26,4 +23,4 @@ returns c =
     c .assess-risk .ensures ∙ ap (assessRisk (a .age) (a .repayments) (a .defaults)) (toZ-ofZ w64 (a .amount) (c .before .fits .amount))
 
 pub pasumorip-assess-risk-spec : {M : Type 1} → statement M
-pasumorip-assess-risk-spec = tie.close (tie.spec assess-risk-requires cast-result returns)
+pasumorip-assess-risk-spec = tie.close (tie.spec (λ c κs. search needs) cast-result returns)

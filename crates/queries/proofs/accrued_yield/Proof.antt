@@ -1,25 +1,31 @@
--- `accrued_yield` meets its contract: fields, tables, then the accrual.
-use mathlib.Core.Path.{_≡_, sym, _∙_}
-use mathlib.Core.Bool.{Bool, true, false}
+-- `accrued_yield` meets its contract: the gate, then what banking the row that is found answers.
+use mathlib.Core.Path.{_≡_, sym, ap, ap₂, _∙_}
+use mathlib.Core.Bool.{Bool, false, cond, _&&_}
 use mathlib.Core.List.{List, [], _∷_}
+use Prim.Native.Nat.{ℕ, _<_}
+use native.Mathlib.Omega.{arith}
+use lib.IntN.{pos}
+use lib.Dec.{eqb, leb, ltb}
 use borrow.Author.Needs.{needs}
-use borrow.Author.Tests.{not-true, not-false, leb-true}
-use lib.Dec.{eqb, leb}
+use borrow.Author.Tests.{leb-true}
 use Rattle.rules.specs.declared.Answer.{Answer}
-use Rattle.rules.specs.Limits.{lastTime, isPool, isNumber}
 use Rattle.rules.specs.Table.{all}
-use Rattle.rules.specs.Answers.{Malformed}
-use Rattle.rules.specs.Queries.{accruedYield}
-use Rattle.books.specs.Words.{Tables, tables, booksOf, goodTables}
+use Rattle.rules.specs.Answers.{refusal, Malformed, OverLimit}
+use Rattle.rules.specs.Limits.{limit, lastTime, twoTo64, isPool, isNumber}
+use Rattle.rules.specs.Books.{stakeAt, bankedAt}
+use Rattle.rules.specs.Queries.{told, accruedYield}
 use Rattle.rules.proofs.Tests.{nth, pool-read}
-use Rattle.queries.specs.Queries.{accrued}
-use Rattle.queries.proofs.QueryOrder.{asked-malformed, asked-bad, asked-good, with-first, not-first, accrued-code}
+use Rattle.books.specs.Words.{Tables, tables, booksOf}
+use Rattle.books.proofs.Good.{good-read}
+use Rattle.queries.specs.inner.Gate.{gateCode}
+use Rattle.queries.proofs.QueryOrder.{Open, open-read, gate-answers, gate-refuses, with-first, accrued-code}
+use Rattle.queries.proofs.QueryRows.{stakes-found, bankable, accrued-told, accrued-over}
 use Rattle.queries.proofs.accrued_yield.Statement.{statement}
 use Rattle.queries.proofs.accrued_yield.Tie as tie
 
--- the entry, seen from the first call
-abbrev st : tie.After-is-time → tie.Start
-st c = c .before .before .before .before
+-- the entry, seen from the gate
+abbrev st : tie.After-gate → tie.Start
+st c = c .before .before .before .before .before .before
 
 abbrev given : tie.Start → Tables
 given c = tables (c .args .stakes .now) (c .args .offers .now) (c .args .books .now)
@@ -27,90 +33,86 @@ given c = tables (c .args .stakes .now) (c .args .offers .now) (c .args .books .
 abbrev fields : tie.Start → List Bool
 fields c = leb (c .args .time) lastTime ∷ isPool (c .args .pool) ∷ isNumber (c .args .account .0) ∷ []
 
+abbrev sum : tie.Start → ℕ
+sum c = let b = booksOf (given c) in bankedAt b (c .args .pool) (c .args .time) (stakeAt b (c .args .pool) (c .args .account))
+
 abbrev answer : tie.Start → Answer
-answer c = accrued (booksOf (given c)) (c .args .time) (c .args .pool) (c .args .account .0)
+answer c = cond (ltb limit (sum c)) (refusal OverLimit) (told (pos (sum c)) (pos 0))
 
-in-time : (c : tie.Else1) → leb (st (c .before) .args .time) lastTime ≡ true
-in-time c = sym (c .before .is-time .ensures) ∙ not-false _ (c .if1 .left)
+code-is : (c : tie.After-gate) → c .gate .result ≡ gateCode (given (st c)) (all (fields (st c)))
+code-is c = c .gate .ensures ∙ ap (gateCode (given (st c))) (ap₂ (λ (x y : Bool). x && y) (c .before .before .is-time .ensures) (c .before .is-key .ensures) ∙ with-first _ _)
 
-keyed : (c : tie.Else2) → all (let s = st (c .before .before .before) in isPool (s .args .pool) ∷ isNumber (s .args .account .0) ∷ []) ≡ true
-keyed c = sym (c .before .is-key .ensures) ∙ not-false _ (c .if2 .left)
+opened : (c : tie.Else1) → Open (given (st (c .before))) (all (fields (st (c .before))))
+opened c = open-read _ _ (sym (code-is (c .before)) ∙ c .if1 .left)
 
-meet : (c : tie.Else2) → all (fields (st (c .before .before .before))) ≡ true
-meet c = with-first _ _ (in-time (c .before .before)) ∙ keyed c
+word : (c : tie.Start) → c .args .account .0 < twoTo64
+word c = omega arith
 
-good : (c : tie.Else3) → goodTables (given (st (c .before .before .before .before .before))) ≡ true
-good c = sym (c .before .tables-well-formed .ensures) ∙ not-false _ (c .if3 .left)
-
-is-time-requires : tie.Need-is-time-requires
-is-time-requires c κs = search needs
-
-refuse-requires : tie.Need-refuse-requires
-refuse-requires c κs = search needs
+code : (c : tie.Start) → eqb (answer c .code) Malformed ≡ false
+code c = accrued-code (ltb limit (sum c)) (sum c)
 
 returns : tie.Need-returns
-unfolding accruedYield accrued
+unfolding accruedYield
 returns c =
     let d = c .before .before in
     let s = st d in
-    c .refuse .ensures ∙ asked-malformed (given s) (fields s) (answer s) (not-first _ _ (sym (d .is-time .ensures) ∙ not-true _ (c .before .if1 .taken)))
+    c .refuse .ensures ∙ ap refusal (code-is d) ∙ gate-refuses (given s) (answer s) (code s) (fields s) (λ z. c .before .if1 .taken (code-is d ∙ z))
 
-is-key-requires : tie.Need-is-key-requires
-is-key-requires c κs = search needs
+used-stakes-requires : tie.Need-used-stakes-requires
+used-stakes-requires c κs = good-read _ (opened c .good) .stakes-tidy
 
-refuse-requires-2 : tie.Need-refuse-requires-2
-refuse-requires-2 c κs = search needs
+read-stake-requires : tie.Need-read-stake-requires
+read-stake-requires c κs = stakes-found _ (opened (c .before) .good) _ (c .used-stakes .ensures)
+
+banked-of-requires : tie.Need-banked-of-requires
+banked-of-requires c κs =
+    let e = c .before .before in
+    let s = st (e .before) in
+    let a = s .args in
+    let f = nth _ (opened e .met) in
+    bankable (given s) (opened e .good) (a .time) (a .pool) (a .account) (word s) (c .read-stake .result) (c .read-stake .ensures) (leb-true (a .time) lastTime (f 0)) (pool-read (a .pool) (f 1))
 
 returns-2 : tie.Need-returns-2
-unfolding accruedYield accrued
+unfolding accruedYield
 returns-2 c =
-    let k = c .before .before in
-    let s = st (k .before .before) in
-    c .refuse2 .ensures ∙ asked-malformed (given s) (fields s) (answer s) (with-first _ _ (in-time (k .before)) ∙ sym (k .is-key .ensures) ∙ not-true _ (c .before .if2 .taken))
-
-tables-well-formed-requires : tie.Need-tables-well-formed-requires
-tables-well-formed-requires c κs = search needs
-
-refuse-requires-3 : tie.Need-refuse-requires-3
-refuse-requires-3 c κs = search needs
-
-code : (s : tie.Start) → eqb (answer s .code) Malformed ≡ false
-code s = accrued-code (booksOf (given s)) (s .args .time) (s .args .pool) (s .args .account .0)
+    let i = c .before .before in
+    let b = i .before .before in
+    let r = b .before in
+    let e = r .before .before in
+    let s = st (e .before) in
+    let a = s .args in
+    c .tell .ensures
+    ∙ accrued-told (given s) (opened e .good) (a .time) (a .pool) (a .account) (word s) (r .read-stake .result) (r .read-stake .ensures) (b .banked-of .result) (b .banked-of .ensures) (i .sum .given .0 .0) (i .sum .given .1)
+    ∙ gate-answers (given s) (answer s) (code s) (fields s) (opened e)
 
 returns-3 : tie.Need-returns-3
-unfolding accruedYield accrued
+unfolding accruedYield
 returns-3 c =
-    let w = c .before .before in
-    let e = w .before in
-    let s = st (e .before .before .before) in
-    c .refuse3 .ensures ∙ asked-bad (given s) (fields s) (answer s) (meet e) (code s) (sym (w .tables-well-formed .ensures) ∙ not-true _ (c .before .if3 .taken))
-
-accrued-at-requires : tie.Need-accrued-at-requires
-accrued-at-requires c κs =
-    let e = c .before .before in
-    let s = st (e .before .before .before) in
-    (good c, (leb-true (s .args .time) lastTime (in-time (e .before .before)), pool-read (s .args .pool) (nth _ (keyed e) 0)))
-
-returns-4 : tie.Need-returns-4
-unfolding accruedYield accrued
-returns-4 c =
-    let f = c .before in
-    let e = f .before .before in
-    let s = st (e .before .before .before) in
-    c .accrued-at .ensures ∙ asked-good (given s) (fields s) (answer s) (meet e) (code s) (good f)
+    let i = c .before in
+    let b = i .before .before in
+    let r = b .before in
+    let e = r .before .before in
+    let s = st (e .before) in
+    let a = s .args in
+    c .refuse2 .ensures
+    ∙ accrued-over (given s) (opened e .good) (a .time) (a .pool) (a .account) (word s) (r .read-stake .result) (r .read-stake .ensures) (b .banked-of .result) (b .banked-of .ensures) (i .enum-told .given .1)
+    ∙ gate-answers (given s) (answer s) (code s) (fields s) (opened e)
 
 pub accrued-yield-spec : {M : Type 1} → statement M
 accrued-yield-spec =
     tie.close
     (tie.spec
-    is-time-requires
-    refuse-requires
+    (λ c κs. search needs)
+    (λ c κs. search needs)
+    (λ c κs. search needs)
+    (λ c κs. search needs)
     returns
-    is-key-requires
-    refuse-requires-2
+    used-stakes-requires
+    read-stake-requires
+    banked-of-requires
+    (λ c. search needs)
+    (λ c κs. search needs)
+    (λ c. search needs)
+    (λ c κs. search needs)
     returns-2
-    tables-well-formed-requires
-    refuse-requires-3
-    returns-3
-    accrued-at-requires
-    returns-4)
+    returns-3)

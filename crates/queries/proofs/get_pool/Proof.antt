@@ -1,29 +1,31 @@
--- `get_pool` meets its contract: fields, tables, then the pool's figures.
-use mathlib.Core.Path.{_≡_, refl, sym, _∙_}
-use mathlib.Core.Bool.{Bool, true}
+-- `get_pool` meets its contract: the gate, then the pool's figures.
+use mathlib.Core.Path.{_≡_, refl, sym, ap, _∙_}
+use mathlib.Core.Bool.{Bool}
 use mathlib.Core.List.{List, [], _∷_}
 use Prim.Native.Nat.{_<_}
 use native.Mathlib.Omega.{arith}
-use borrow.Author.Needs.{needs}
-use borrow.Author.Tests.{not-true, not-false}
 use lib.IntN.{pos}
+use borrow.Author.Needs.{needs}
 use Rattle.rules.specs.declared.Answer.{Answer}
-use Rattle.rules.specs.Limits.{isPool}
 use Rattle.rules.specs.Table.{all}
+use Rattle.rules.specs.Answers.{refusal}
+use Rattle.rules.specs.Limits.{isPool}
 use Rattle.rules.specs.Books.{balanceOf, unpaidOf}
-use Rattle.rules.proofs.Tests.{pool-read}
 use Rattle.rules.specs.Queries.{told, getPool}
-use Rattle.books.specs.Words.{Tables, tables, booksOf, goodTables}
+use Rattle.rules.proofs.Tests.{nth, pool-read}
 use Rattle.rules.proofs.Conditions.{all-joined}
+use Rattle.books.specs.Words.{Tables, tables, booksOf}
+use Rattle.books.specs.Layout.{pools}
 use Rattle.books.proofs.Good.{good-read}
-use Rattle.queries.proofs.QueryOrder.{asked-malformed, asked-bad, asked-good}
+use Rattle.queries.specs.inner.Gate.{gateCode}
+use Rattle.queries.proofs.QueryOrder.{Open, open-read, gate-answers, gate-refuses}
 use Rattle.queries.proofs.QueryRows.{unpaid-small, pool-told}
 use Rattle.queries.proofs.get_pool.Statement.{statement}
 use Rattle.queries.proofs.get_pool.Tie as tie
 
--- the entry, seen from the first call
-abbrev st : tie.After-is-pool → tie.Start
-st c = c .before .before .before .before
+-- the entry, seen from the gate
+abbrev st : tie.After-gate → tie.Start
+st c = c .before .before .before .before .before
 
 abbrev given : tie.Start → Tables
 given c = tables (c .args .stakes .now) (c .args .offers .now) (c .args .books .now)
@@ -34,80 +36,46 @@ fields c = isPool (c .args .pool) ∷ []
 abbrev answer : tie.Start → Answer
 answer c = let b = booksOf (given c) in told (balanceOf b (c .args .pool)) (pos (unpaidOf b (c .args .pool)))
 
-pool-is : (c : tie.Else1) → isPool (st (c .before) .args .pool) ≡ true
-pool-is c = sym (c .before .is-pool .ensures) ∙ not-false _ (c .if1 .left)
+code-is : (c : tie.After-gate) → c .gate .result ≡ gateCode (given (st c)) (all (fields (st c)))
+code-is c = c .gate .ensures ∙ ap (gateCode (given (st c))) (c .before .is-pool .ensures ∙ all-joined _ [])
 
-meet : (c : tie.Else1) → all (fields (st (c .before))) ≡ true
-meet c = sym (all-joined _ []) ∙ pool-is c
+opened : (c : tie.Else1) → Open (given (st (c .before))) (all (fields (st (c .before))))
+opened c = open-read _ _ (sym (code-is (c .before)) ∙ c .if1 .left)
 
-good : (c : tie.Else2) → goodTables (given (st (c .before .before .before))) ≡ true
-good c = sym (c .before .tables-well-formed .ensures) ∙ not-false _ (c .if2 .left)
-
-is-pool-requires : tie.Need-is-pool-requires
-is-pool-requires c κs = search needs
-
-refuse-requires : tie.Need-refuse-requires
-refuse-requires c κs = search needs
+pool-in : (c : tie.Else1) → st (c .before) .args .pool < pools
+pool-in c = omega (arith, pool-read (st (c .before) .args .pool) (nth _ (opened c .met) 0))
 
 returns : tie.Need-returns
 unfolding getPool
 returns c =
     let d = c .before .before in
-    c .refuse .ensures ∙ asked-malformed (given (st d)) (fields (st d)) (answer (st d)) (sym (all-joined _ []) ∙ sym (d .is-pool .ensures) ∙ not-true _ (c .before .if1 .taken))
-
-tables-well-formed-requires : tie.Need-tables-well-formed-requires
-tables-well-formed-requires c κs = search needs
-
-refuse-requires-2 : tie.Need-refuse-requires-2
-refuse-requires-2 c κs = search needs
-
-returns-2 : tie.Need-returns-2
-unfolding getPool
-returns-2 c =
-    let w = c .before .before in
-    let e = w .before in
-    let s = st (e .before) in
-    c .refuse2 .ensures ∙ asked-bad (given s) (fields s) (answer s) (meet e) refl (sym (w .tables-well-formed .ensures) ∙ not-true _ (c .before .if2 .taken))
-
-below-four : (c : tie.Else2) → st (c .before .before .before) .args .pool < 4
-below-four c = let s = st (c .before .before .before) in omega (arith, pool-read (s .args .pool) (pool-is (c .before .before)))
+    let s = st d in
+    c .refuse .ensures ∙ ap refusal (code-is d) ∙ gate-refuses (given s) (answer s) refl (fields s) (λ z. c .before .if1 .taken (code-is d ∙ z))
 
 balance-requires : tie.Need-balance-requires
-balance-requires c κs = (good-read _ (good c) .twelve, below-four c)
+balance-requires c κs = (good-read _ (opened c .good) .sized, pool-in c)
 
 unpaid-requires : tie.Need-unpaid-requires
-unpaid-requires c κs = (good-read _ (good (c .before)) .twelve, below-four (c .before))
+unpaid-requires c κs = (good-read _ (opened (c .before) .good) .sized, pool-in (c .before))
 
 tell-requires : tie.Need-tell-requires
 tell-requires c κs =
     let b = c .before in
-    let f = b .before in
-    let s = st (f .before .before .before) in
-    unpaid-small (given s) (good f) (s .args .pool) (below-four f) (b .balance .result) (c .unpaid .result) (b .balance .ensures) (c .unpaid .ensures)
+    let e = b .before in
+    let s = st (e .before) in
+    unpaid-small (given s) (opened e .good) (s .args .pool) (pool-in e) (b .balance .result) (c .unpaid .result) (b .balance .ensures) (c .unpaid .ensures)
 
-returns-3 : tie.Need-returns-3
+returns-2 : tie.Need-returns-2
 unfolding getPool
-returns-3 c =
+returns-2 c =
     let u = c .before in
     let b = u .before in
-    let f = b .before in
-    let e = f .before .before in
+    let e = b .before in
     let s = st (e .before) in
     c .tell .ensures
-    ∙ pool-told (given s) (good f) (s .args .pool) (below-four f) (b .balance .result) (u .unpaid .result) (b .balance .ensures) (u .unpaid .ensures)
-    ∙ asked-good (given s) (fields s) (answer s) (meet e) refl (good f)
+    ∙ pool-told (given s) (opened e .good) (s .args .pool) (pool-in e) (b .balance .result) (u .unpaid .result) (b .balance .ensures) (u .unpaid .ensures)
+    ∙ gate-answers (given s) (answer s) refl (fields s) (opened e)
 
 pub get-pool-spec : {M : Type 1} → statement M
 get-pool-spec =
-    tie.close
-    (tie.spec
-    is-pool-requires
-    refuse-requires
-    returns
-    tables-well-formed-requires
-    refuse-requires-2
-    returns-2
-    balance-requires
-    unpaid-requires
-    tell-requires
-    returns-3)
+    tie.close (tie.spec (λ c κs. search needs) (λ c κs. search needs) (λ c κs. search needs) returns balance-requires unpaid-requires tell-requires returns-2)

@@ -20,24 +20,9 @@ abbrev μ-loop : tie.MeasureT-loop
 loop-holds : tie.Need-loop-holds Inv-loop μ-loop
 loop-holds c = let a = c .before .args in (omega arith, omega arith, sym (count-none (a .pool) (a .stakes .now) (a .used)))
 
-sub-i : tie.Need-sub-i Inv-loop μ-loop
-sub-i c = search needs
-
-stake-at-requires : tie.Need-stake-at-requires Inv-loop μ-loop
-stake-at-requires c κs = search needs
-
-is-sharer-requires : tie.Need-is-sharer-requires Inv-loop μ-loop
-is-sharer-requires c κs = search needs
-
 -- what `is_sharer` answers of the row that was read
 shares-is : (c : tie.After-is-sharer Inv-loop μ-loop) → let a = c .before .before .before .before .before .args in c .is-sharer .result ≡ sharer (a .pool) (stakeRowAt (a .stakes .now) (c .before .before .before .loop .i - 1))
 shares-is c = let a = c .before .before .before .before .before .args in c .is-sharer .ensures ∙ ap (sharer (a .pool)) (c .before .stake-at .ensures)
-
-add-n : tie.Need-add-n Inv-loop μ-loop
-add-n c = search needs
-
-loop-less : tie.Need-loop-less Inv-loop μ-loop
-loop-less c = search needs
 
 loop-again : tie.Need-loop-again Inv-loop μ-loop
 loop-again c =
@@ -45,9 +30,6 @@ loop-again c =
     let a = c .before .before .before .before .before .before .args in
     let e = count-in (a .pool) (a .stakes .now) (l .i) (a .used) (omega arith) (omega arith) (sym (shares-is (c .before)) ∙ c .if1 .taken) in
     (omega arith, omega arith, omega (arith, e, l .inv .2))
-
-loop-less-2 : tie.Need-loop-less-2 Inv-loop μ-loop
-loop-less-2 c = search needs
 
 loop-again-2 : tie.Need-loop-again-2 Inv-loop μ-loop
 loop-again-2 c =
@@ -71,12 +53,12 @@ sharers-among-spec =
     Inv-loop
     μ-loop
     loop-holds
-    sub-i
-    stake-at-requires
-    is-sharer-requires
-    add-n
-    loop-less
+    (λ c. search needs)
+    (λ c κs. search needs)
+    (λ c κs. search needs)
+    (λ c. search needs)
+    (λ c. search needs)
     loop-again
-    loop-less-2
+    (λ c. search needs)
     loop-again-2
     returns)

@@ -7,18 +7,6 @@ use Rattle.whole.proofs.Linear.{returned}
 use Rattle.queries.proofs.tell.Statement.{statement}
 use Rattle.queries.proofs.tell.Tie as tie
 
-no-transfer-requires : tie.Need-no-transfer-requires
-no-transfer-requires c κs = search needs
-
-no-transfer-requires-2 : tie.Need-no-transfer-requires-2
-no-transfer-requires-2 c κs = search needs
-
-of-word-requires : tie.Need-of-word-requires
-of-word-requires c κs = search needs
-
-cast-t6 : tie.Need-cast-t6
-cast-t6 c = search needs
-
 returns : tie.Need-returns
 returns c =
     let s = c .before .before .before in
@@ -27,4 +15,4 @@ returns c =
 pub tell-spec : {M : Type 1} → statement M
 tell-spec =
     tie.close
-    (tie.spec no-transfer-requires no-transfer-requires-2 of-word-requires cast-t6 returns)
+    (tie.spec (λ c κs. search needs) (λ c κs. search needs) (λ c κs. search needs) (λ c. search needs) returns)

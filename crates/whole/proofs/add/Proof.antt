@@ -8,13 +8,10 @@ use Rattle.whole.proofs.Words.{word-sum}
 use Rattle.whole.proofs.add.Statement.{statement}
 use Rattle.whole.proofs.add.Tie as tie
 
-wrapping-add-u64-requires : tie.Need-wrapping-add-u64-requires
-wrapping-add-u64-requires c κs = search needs
-
 returns : tie.Need-returns
 returns c =
     let a = c .before .args in
     ap (toZ w64) (c .wrapping-add-u64 .ensures) ∙ word-sum (a .a) (a .b) (omega arith) (omega arith) (c .before .pre)
 
 pub add-spec : {M : Type 1} → statement M
-add-spec = tie.close (tie.spec wrapping-add-u64-requires returns)
+add-spec = tie.close (tie.spec (λ c κs. search needs) returns)

@@ -4,14 +4,8 @@ use Rattle.whole.proofs.Linear.{returned}
 use Rattle.whole.proofs.less.Statement.{statement}
 use Rattle.whole.proofs.less.Tie as tie
 
-of-word-requires : tie.Need-of-word-requires
-of-word-requires c κs = search needs
-
-of-word-requires-2 : tie.Need-of-word-requires-2
-of-word-requires-2 c κs = search needs
-
 returns : tie.Need-returns
 returns c = cc (returned (c .before .of-word .result) (c .before .of-word .ok), returned (c .of-word2 .result) (c .of-word2 .ok))
 
 pub less-spec : {M : Type 1} → statement M
-less-spec = tie.close (tie.spec of-word-requires of-word-requires-2 returns)
+less-spec = tie.close (tie.spec (λ c κs. search needs) (λ c κs. search needs) returns)

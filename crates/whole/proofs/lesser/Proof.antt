@@ -8,9 +8,6 @@ use Rattle.whole.proofs.Linear.{whole, lesser-is}
 use Rattle.whole.proofs.lesser.Statement.{statement}
 use Rattle.whole.proofs.lesser.Tie as tie
 
-less-requires : tie.Need-less-requires
-less-requires c κs = search needs
-
 returns : tie.Need-returns
 returns c =
     let a = c .before .before .args in
@@ -24,4 +21,4 @@ returns-2 c =
     omega (arith, whole, lesser-is (toZ w64 (a .a)) (toZ w64 (a .b)))
 
 pub lesser-spec : {M : Type 1} → statement M
-lesser-spec = tie.close (tie.spec less-requires returns returns-2)
+lesser-spec = tie.close (tie.spec (λ c κs. search needs) returns returns-2)

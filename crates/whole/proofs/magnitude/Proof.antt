@@ -8,12 +8,6 @@ use Rattle.whole.proofs.Words.{low, high}
 use Rattle.whole.proofs.magnitude.Statement.{statement}
 use Rattle.whole.proofs.magnitude.Tie as tie
 
-sub-result : tie.Need-sub-result
-sub-result c = search needs
-
-add-result : tie.Need-add-result
-add-result c = search needs
-
 returns : tie.Need-returns
 returns c = let w = c .before .args .w in omega (arith, abs (toZ w64 w), low w (omega arith))
 
@@ -21,4 +15,4 @@ returns-2 : tie.Need-returns-2
 returns-2 c = let w = c .before .args .w in omega (arith, abs (toZ w64 w), high w (omega arith) (omega arith))
 
 pub magnitude-spec : {M : Type 1} → statement M
-magnitude-spec = tie.close (tie.spec sub-result add-result returns returns-2)
+magnitude-spec = tie.close (tie.spec (λ c. search needs) (λ c. search needs) returns returns-2)

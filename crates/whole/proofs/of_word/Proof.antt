@@ -10,22 +10,10 @@ use Rattle.whole.proofs.Words.{low, high}
 use Rattle.whole.proofs.of_word.Statement.{statement}
 use Rattle.whole.proofs.of_word.Tie as tie
 
-cast-result : tie.Need-cast-result
-cast-result c = search needs
-
-sub-result : tie.Need-sub-result
-sub-result c = search needs
-
-cast-result-2 : tie.Need-cast-result-2
-cast-result-2 c = search needs
-
 sub-result-2 : tie.Need-sub-result-2
 sub-result-2 c =
     let k = 0xffff_ffff_ffff_ffff - c .before .args .w in
     omega (arith, whole, low k (omega arith), dif (negsuc 0) (toZ w64 k))
-
-returns : tie.Need-returns
-returns c = search needs
 
 returns-2 : tie.Need-returns-2
 returns-2 c =
@@ -34,4 +22,4 @@ returns-2 c =
     omega (arith, whole, low k (omega arith), high w (omega arith) (omega arith), dif (negsuc 0) (toZ w64 k), back (sub-result-2 c))
 
 pub of-word-spec : {M : Type 1} → statement M
-of-word-spec = tie.close (tie.spec cast-result sub-result cast-result-2 sub-result-2 returns returns-2)
+of-word-spec = tie.close (tie.spec (λ c. search needs) (λ c. search needs) (λ c. search needs) sub-result-2 (λ c. search needs) returns-2)

@@ -7,12 +7,6 @@ use Rattle.whole.proofs.Words.{low, high}
 use Rattle.whole.proofs.signed.Statement.{statement}
 use Rattle.whole.proofs.signed.Tie as tie
 
-sub-result : tie.Need-sub-result
-sub-result c = search needs
-
-sub-result-2 : tie.Need-sub-result-2
-sub-result-2 c = search needs
-
 returns : tie.Need-returns
 returns c = omega (arith, whole, signed-size (c .before .args .negative) (c .before .args .magnitude))
 
@@ -27,4 +21,4 @@ returns-3 c =
     omega (arith, whole, low m (omega arith), signed-is _ m .1 (c .if2 .left))
 
 pub signed-spec : {M : Type 1} → statement M
-signed-spec = tie.close (tie.spec sub-result sub-result-2 returns returns-2 returns-3)
+signed-spec = tie.close (tie.spec (λ c. search needs) (λ c. search needs) returns returns-2 returns-3)

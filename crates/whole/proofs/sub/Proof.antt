@@ -5,13 +5,10 @@ use Rattle.whole.proofs.Words.{word-dif}
 use Rattle.whole.proofs.sub.Statement.{statement}
 use Rattle.whole.proofs.sub.Tie as tie
 
-wrapping-sub-u64-requires : tie.Need-wrapping-sub-u64-requires
-wrapping-sub-u64-requires c κs = search needs
-
 returns : tie.Need-returns
 returns c =
     let a = c .before .args in
     word-dif (a .a) (a .b) (c .wrapping-sub-u64 .result) (omega arith) (omega arith) (omega arith) (c .wrapping-sub-u64 .ensures) (c .before .pre)
 
 pub sub-spec : {M : Type 1} → statement M
-sub-spec = tie.close (tie.spec wrapping-sub-u64-requires returns)
+sub-spec = tie.close (tie.spec (λ c κs. search needs) returns)

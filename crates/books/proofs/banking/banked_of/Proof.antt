@@ -10,12 +10,6 @@ use Rattle.rules.proofs.Ranges.{rate-most}
 use Rattle.books.proofs.banking.banked_of.Statement.{statement}
 use Rattle.books.proofs.banking.banked_of.Tie as tie
 
-rate-requires : tie.Need-rate-requires
-rate-requires c κs = search needs
-
-yield-rate-requires : tie.Need-yield-rate-requires
-yield-rate-requires c κs = search needs
-
 bank-accrued-yield-requires : tie.Need-bank-accrued-yield-requires
 bank-accrued-yield-requires c κs =
     let p = c .before .before .before .pre in
@@ -30,4 +24,4 @@ returns c =
 
 pub banked-of-spec : {M : Type 1} → statement M
 banked-of-spec =
-    tie.close (tie.spec rate-requires yield-rate-requires bank-accrued-yield-requires returns)
+    tie.close (tie.spec (λ c κs. search needs) (λ c κs. search needs) bank-accrued-yield-requires returns)

@@ -5,6 +5,7 @@ use Prim.Native.Nat.{ℕ}
 use lib.ListN.{set}
 use mir.Val.{boolByte}
 use borrow.Author.Needs.{needs}
+use Rattle.books.specs.Layout.{pausedWord}
 use Rattle.books.proofs.figures.set_paused.Statement.{statement}
 use Rattle.books.proofs.figures.set_paused.Tie as tie
 
@@ -12,17 +13,8 @@ flag : (t : Bool) → boolByte t ≡ cond t 1 0
 flag true = refl
 flag false = refl
 
-cast-books : tie.Need-cast-books
-cast-books c = search needs
-
-slice-write-books : tie.Need-slice-write-books
-slice-write-books c = search needs
-
-same-length : tie.Need-same-length
-same-length c = search needs
-
 returns : tie.Need-returns
-returns c = ap (λ (w : ℕ). set (c .args .books .now) 10 w) (flag (c .args .paused))
+returns c = ap (λ (w : ℕ). set (c .args .books .now) pausedWord w) (flag (c .args .paused))
 
 pub set-paused-spec : {M : Type 1} → statement M
-set-paused-spec = tie.close (tie.spec cast-books slice-write-books same-length returns)
+set-paused-spec = tie.close (tie.spec (λ c. search needs) (λ c. search needs) (λ c. search needs) returns)

@@ -3,11 +3,12 @@ use mathlib.Core.Path.{_≡_, sym, ap, _∙_}
 use Prim.Native.Nat.{_<_}
 use native.Mathlib.Omega.{arith}
 use borrow.Author.Needs.{needs}
-use Rattle.rows.specs.Found.{placeOf}
+use Rattle.rows.specs.inner.Found.{placeOf}
 use Rattle.rows.specs.declared.Place.the-variants.{At}
 use Rattle.rows.proofs.Order.{found-at}
-use Rattle.rules.specs.Books.{OfferRow, offerRow}
+use Rattle.rules.specs.Books.{OfferRow, noOffer}
 use Rattle.rules.specs.Table.{keyOf}
+use Rattle.books.specs.Layout.{offerWidth}
 use Rattle.books.specs.Words.{offerRowAt}
 use Rattle.books.proofs.Lists.{rowOr}
 use Rattle.books.proofs.OfferRows.{find-offer}
@@ -19,27 +20,21 @@ abbrev st : tie.After-i → tie.Start
 st c = c .before .before .before .before
 
 abbrev none : tie.Start → OfferRow
-none c = offerRow (c .args .pool) (c .args .offer .0) 0 0
+none c = noOffer (c .args .pool) (c .args .offer)
 
-at-i : (c : tie.After-i) → placeOf (st c .args .offers .now) 4 (st c .args .used) (keyOf (st c .args .pool) (st c .args .offer .0)) ≡ At (c .i .given .0 .0)
+at-i : (c : tie.After-i) → placeOf (st c .args .offers .now) offerWidth (st c .args .used) (keyOf (st c .args .pool) (st c .args .offer .0)) ≡ At (c .i .given .0 .0)
 at-i c = sym (c .before .before .find .ensures) ∙ c .i .given .1
 
 below : (c : tie.After-i) → c .i .given .0 .0 < st c .args .used
 below c =
     let a = st c .args in
-    found-at (a .offers .now) 4 (a .used) (keyOf (a .pool) (a .offer .0)) (c .i .given .0 .0) (st c .pre .table .sorted) (at-i c) .0
+    found-at (a .offers .now) offerWidth (a .used) (keyOf (a .pool) (a .offer .0)) (c .i .given .0 .0) (st c .pre .table .sorted) (at-i c) .0
 
 find-requires : tie.Need-find-requires
 find-requires c κs = (omega arith, (c .before .pre .table .fits, c .before .pre .table .sorted))
 
-enum-known-i : tie.Need-enum-known-i
-enum-known-i c = search needs
-
 offer-at-requires : tie.Need-offer-at-requires
 offer-at-requires c κs = omega (arith, below (c .before), st (c .before) .pre .table .fits)
-
-enum-told : tie.Need-enum-told
-enum-told c = search needs
 
 returns : tie.Need-returns
 returns c =
@@ -58,4 +53,4 @@ returns-2 c =
 
 pub read-offer-spec : {M : Type 1} → statement M
 read-offer-spec =
-    tie.close (tie.spec find-requires enum-known-i offer-at-requires enum-told returns returns-2)
+    tie.close (tie.spec find-requires (λ c. search needs) offer-at-requires (λ c. search needs) returns returns-2)

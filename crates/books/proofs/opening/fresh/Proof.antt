@@ -7,6 +7,7 @@ use native.Mathlib.Omega.{arith}
 use lib.ListN.{length, set, length-replicate}
 use borrow.Author.Needs.{needs}
 use borrow.Author.Tests.{not-true, not-false}
+use Rattle.books.specs.Layout.{adminWord}
 use Rattle.books.specs.Words.{Tables, tables}
 use Rattle.books.specs.Fresh.{lent, renewed}
 use Rattle.books.proofs.Good.{same-tables}
@@ -30,47 +31,17 @@ word c = omega arith
 returns : tie.Need-returns
 returns c =
     let b = c .before .before .before .before .before in
-    fresh-no-admin (given b) (b .args .admin .0) (c .if1 .taken)
-
-is-lent-requires : tie.Need-is-lent-requires
-is-lent-requires c κs = search needs
-
-same-length : tie.Need-same-length
-same-length c = search needs
-
-same-length-2 : tie.Need-same-length-2
-same-length-2 c = search needs
-
-same-length-3 : tie.Need-same-length-3
-same-length-3 c = search needs
+    fresh-no-admin (given b) (b .args .admin) (c .if1 .taken)
 
 returns-2 : tie.Need-returns-2
 returns-2 c =
     let b = c .before .before .before .before .before .before .before .before .before .before in
-    fresh-not-lent (given b) (b .args .admin .0) (c .before .before .before .before .before .if1 .left) (word b) (sym (c .before .is-lent .ensures) ∙ not-true _ (c .if2 .taken))
-
-wipe-requires : tie.Need-wipe-requires
-wipe-requires c κs = search needs
-
-wipe-requires-2 : tie.Need-wipe-requires-2
-wipe-requires-2 c κs = search needs
-
-wipe-requires-3 : tie.Need-wipe-requires-3
-wipe-requires-3 c κs = search needs
+    fresh-not-lent (given b) (b .args .admin) (c .before .before .before .before .before .if1 .left) (word b) (sym (c .before .is-lent .ensures) ∙ not-true _ (c .if2 .taken))
 
 set-admin-requires : tie.Need-set-admin-requires
 set-admin-requires c κs =
     let e = c .before .before .before .before .before .before .before .before .before .before .before .before .before in
-    ap length (c .before .before .before .wipe3 .ensures) ∙ length-replicate _ 0 ∙ lent-parts (given (st e)) (was-lent e) .twelve
-
-same-length-4 : tie.Need-same-length-4
-same-length-4 c = search needs
-
-same-length-5 : tie.Need-same-length-5
-same-length-5 c = search needs
-
-same-length-6 : tie.Need-same-length-6
-same-length-6 c = search needs
+    ap length (c .before .before .before .wipe3 .ensures) ∙ length-replicate _ 0 ∙ lent-parts (given (st e)) (was-lent e) .sized
 
 returns-3 : tie.Need-returns-3
 returns-3 c =
@@ -78,24 +49,24 @@ returns-3 c =
     let b = st e in
     let s = c .before .before .before .before .before .before .before .before .before .before .before .before .before .before .wipe .ensures in
     let o = c .before .before .before .before .before .before .before .before .before .before .wipe2 .ensures in
-    let w = c .before .before .set-admin .ensures ∙ ap (λ (l : List ℕ). set l 8 (b .args .admin .0)) (c .before .before .before .before .before .before .wipe3 .ensures) in
-    ap (λ (x : Tables). renewed 0 x) (same-tables s o w) ∙ fresh-done (given b) (b .args .admin .0) (e .before .before .before .before .before .if1 .left) (word b) (was-lent e)
+    let w = c .before .before .set-admin .ensures ∙ ap (λ (l : List ℕ). set l adminWord (b .args .admin .0)) (c .before .before .before .before .before .before .wipe3 .ensures) in
+    ap (λ (x : Tables). renewed 0 x) (same-tables s o w) ∙ fresh-done (given b) (b .args .admin) (e .before .before .before .before .before .if1 .left) (word b) (was-lent e)
 
 pub fresh-spec : {M : Type 1} → statement M
 fresh-spec =
     tie.close
     (tie.spec
     returns
-    is-lent-requires
-    same-length
-    same-length-2
-    same-length-3
+    (λ c κs. search needs)
+    (λ c. search needs)
+    (λ c. search needs)
+    (λ c. search needs)
     returns-2
-    wipe-requires
-    wipe-requires-2
-    wipe-requires-3
+    (λ c κs. search needs)
+    (λ c κs. search needs)
+    (λ c κs. search needs)
     set-admin-requires
-    same-length-4
-    same-length-5
-    same-length-6
+    (λ c. search needs)
+    (λ c. search needs)
+    (λ c. search needs)
     returns-3)

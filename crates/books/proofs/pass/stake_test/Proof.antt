@@ -12,17 +12,11 @@ use Rattle.rules.specs.Limits.{isPool, isNumber}
 use Rattle.rules.specs.Books.{isZero, stakeGone}
 use Rattle.rules.specs.Formed.{stakeTest}
 use Rattle.rules.proofs.Tests.{word-number}
-use Rattle.books.specs.Held.{stakeOf}
+use Rattle.books.specs.inner.Held.{stakeOf}
 use Rattle.rules.proofs.Conditions.{all-joined}
 use Rattle.books.proofs.Signs.{zero-same}
 use Rattle.books.proofs.pass.stake_test.Statement.{statement}
 use Rattle.books.proofs.pass.stake_test.Tie as tie
-
-is-gone-requires : tie.Need-is-gone-requires
-is-gone-requires c κs = search needs
-
-magnitude-requires : tie.Need-magnitude-requires
-magnitude-requires c κs = search needs
 
 returns : tie.Need-returns
 unfolding stakeTest isPool
@@ -32,4 +26,4 @@ returns c =
     (all-joined (leb (row .pool) 3) (isNumber (row .account) ∷ not (stakeGone (stakeOf row)) ∷ (not (isZero (toZ w64 (row .stake))) || eqb (row .since) 0) ∷ leb (row .since) 17_179_869_183 ∷ leb (natAbs (toZ w64 (row .stake))) 1_000_000_000_000_000 ∷ leb (row .accrual) 1_000_000_000_000_000 ∷ []))
 
 pub stake-test-spec : {M : Type 1} → statement M
-stake-test-spec = tie.close (tie.spec is-gone-requires magnitude-requires returns)
+stake-test-spec = tie.close (tie.spec (λ c κs. search needs) (λ c κs. search needs) returns)

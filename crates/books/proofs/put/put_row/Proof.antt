@@ -7,11 +7,11 @@ use native.Mathlib.Nat.{mul-le-mul-left}
 use native.Mathlib.Omega.{arith}
 use lib.ListN.{length}
 use borrow.Author.Needs.{needs}
-use Rattle.rows.specs.Rows.{keyOfRow}
+use Rattle.rows.specs.inner.Order.{keyOfRow}
 use Rattle.rows.specs.declared.Place.{Place}
 use Rattle.rows.specs.declared.Place.the-variants.{At, Gap}
 use Rattle.rows.proofs.Order.{row-in, found-at, found-gap}
-use Rattle.books.specs.Put.{putWords, putCount, placeFor}
+use Rattle.books.specs.inner.Put.{putWords, putCount, placeFor}
 use Rattle.books.proofs.put.put_row.Statement.{statement}
 use Rattle.books.proofs.put.put_row.Tie as tie
 
@@ -50,26 +50,11 @@ counted c e f = ap₂ (putCount (c .args .used)) (sym e) (sym f)
 room : (c : tie.After-i2) → st2 c .args .gone ≡ false → (st2 c .args .used + 1) * st2 c .args .width ≤ length (st2 c .args .s .now)
 room c e = subst (λ (n : ℕ). n * st2 c .args .width ≤ length (st2 c .args .s .now)) (sym (counted (st2 c) e (gap-i c))) (st2 c .pre .1 .1)
 
-shared-slice-read-find : tie.Need-shared-slice-read-find
-shared-slice-read-find c = search needs
-
-shared-slice-read-find-2 : tie.Need-shared-slice-read-find-2
-shared-slice-read-find-2 c = search needs
-
-find-requires : tie.Need-find-requires
-find-requires c κs = search needs
-
-enum-known-i : tie.Need-enum-known-i
-enum-known-i c = search needs
-
 remove-requires : tie.Need-remove-requires
 remove-requires c κs = (at-below (c .before .before .before), st (c .before .before .before) .pre .1 .0 .0)
 
 sub-result : tie.Need-sub-result
 sub-result c = omega (arith, at-below (c .before .before .before .before .before .before))
-
-same-length : tie.Need-same-length
-same-length c = search needs
 
 returns : tie.Need-returns
 returns c =
@@ -81,12 +66,6 @@ write-row-requires : tie.Need-write-row-requires
 write-row-requires c κs =
     let e = c .before .before .before in
     (st e .pre .0 .1, row-in (st e .args .width) (at-below e) (st e .pre .1 .0 .0))
-
-enum-known-i-2 : tie.Need-enum-known-i-2
-enum-known-i-2 c = search needs
-
-same-length-2 : tie.Need-same-length-2
-same-length-2 c = search needs
 
 returns-2 : tie.Need-returns-2
 returns-2 c =
@@ -104,17 +83,11 @@ add-result c =
     let h : 1 ≤ st2 e .args .width = omega (arith, st2 e .pre .0 .0) in
     omega (arith, mul-le-mul-left (st2 e .args .used + 1) h, room e (c .before .before .before .before .if2 .left), st2 e)
 
-same-length-3 : tie.Need-same-length-3
-same-length-3 c = search needs
-
 returns-3 : tie.Need-returns-3
 returns-3 c =
     let e = c .before .before .before .before .before .before in
     let g = c .before .before .before .before .if1 .left in
     (c .before .before .write-row .ensures ∙ said (st e) g (at-i e), counted (st e) g (at-i e))
-
-same-length-4 : tie.Need-same-length-4
-same-length-4 c = search needs
 
 returns-4 : tie.Need-returns-4
 returns-4 c =
@@ -126,21 +99,21 @@ pub put-row-spec : {M : Type 1} → statement M
 put-row-spec =
     tie.close
     (tie.spec
-    shared-slice-read-find
-    shared-slice-read-find-2
-    find-requires
-    enum-known-i
+    (λ c. search needs)
+    (λ c. search needs)
+    (λ c κs. search needs)
+    (λ c. search needs)
     remove-requires
     sub-result
-    same-length
+    (λ c. search needs)
     returns
     write-row-requires
-    enum-known-i-2
-    same-length-2
+    (λ c. search needs)
+    (λ c. search needs)
     returns-2
     insert-requires
     add-result
-    same-length-3
+    (λ c. search needs)
     returns-3
-    same-length-4
+    (λ c. search needs)
     returns-4)

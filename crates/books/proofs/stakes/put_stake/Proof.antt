@@ -6,24 +6,16 @@ use Prim.Native.Nat.{ℕ, _*_, _≤_}
 use native.Mathlib.Omega.{arith}
 use lib.ListN.{length}
 use borrow.Author.Needs.{needs}
-use Rattle.rows.specs.Rows.{keyOfRow}
-use Rattle.rows.specs.Found.{placeOf}
+use Rattle.rows.specs.inner.Order.{keyOfRow}
+use Rattle.rows.specs.inner.Found.{placeOf}
 use Rattle.rules.specs.Books.{stakeKey}
-use Rattle.books.specs.Put.{putWords, putCount}
-use Rattle.books.specs.Held.{stakeOf}
+use Rattle.books.specs.Layout.{stakeWidth}
+use Rattle.books.specs.inner.Put.{putWords, putCount}
+use Rattle.books.specs.inner.Held.{stakeOf}
 use Rattle.books.proofs.RowKinds.{room-words}
 use Rattle.books.proofs.StakeRows.{stake-words, stake-count, stake-done}
 use Rattle.books.proofs.stakes.put_stake.Statement.{statement}
 use Rattle.books.proofs.stakes.put_stake.Tie as tie
-
-words-of-requires : tie.Need-words-of-requires
-words-of-requires c κs = search needs
-
-slice-aggregate-put-row : tie.Need-slice-aggregate-put-row
-slice-aggregate-put-row c = search needs
-
-is-gone-requires : tie.Need-is-gone-requires
-is-gone-requires c κs = search needs
 
 -- the words are the row's, and so is their key
 key-is : (c : tie.After-words-of) → keyOfRow (c .words-of .result) ≡ stakeKey (stakeOf (c .before .before .args .row))
@@ -37,11 +29,8 @@ put-row-requires c κs =
     let n = b .args .used in
     let r = stakeOf (b .args .row) in
     let t = b .pre .held .table in
-    let count = stake-count s n t r ∙ ap₂ (λ (g : Bool) (k : ℕ). putCount n g (placeOf s 5 n k)) (sym (c .is-gone .ensures)) (sym (key-is f)) in
-    ((omega arith, ap length (f .words-of .ensures)), ((t .fits, t .sorted), subst (λ (m : ℕ). m * 5 ≤ length s) count (room-words 5 s n _ t (b .pre .room))))
-
-same-length : tie.Need-same-length
-same-length c = search needs
+    let count = stake-count s n t r ∙ ap₂ (λ (g : Bool) (k : ℕ). putCount n g (placeOf s stakeWidth n k)) (sym (c .is-gone .ensures)) (sym (key-is f)) in
+    ((omega arith, ap length (f .words-of .ensures)), ((t .fits, t .sorted), subst (λ (m : ℕ). m * stakeWidth ≤ length s) count (room-words stakeWidth s n _ t (b .pre .room))))
 
 returns : tie.Need-returns
 returns c =
@@ -56,19 +45,19 @@ returns c =
     let words = f .words-of .ensures in
     stake-done s n r _ _ (b .pre)
     (p .put-row .ensures .0
-    ∙ ap₂ (λ (l : List ℕ) (g : Bool). putWords 5 s n l g (placeOf s 5 n (keyOfRow l))) words gone
+    ∙ ap₂ (λ (l : List ℕ) (g : Bool). putWords stakeWidth s n l g (placeOf s stakeWidth n (keyOfRow l))) words gone
     ∙ stake-words s n (b .pre .held .table) (λ j. k .slice-known .given j .fits) r (b .pre .room))
     (p .put-row .ensures .1
-    ∙ ap₂ (λ (l : List ℕ) (g : Bool). putCount n g (placeOf s 5 n (keyOfRow l))) words gone
+    ∙ ap₂ (λ (l : List ℕ) (g : Bool). putCount n g (placeOf s stakeWidth n (keyOfRow l))) words gone
     ∙ sym (stake-count s n (b .pre .held .table) r))
 
 pub put-stake-spec : {M : Type 1} → statement M
 put-stake-spec =
     tie.close
     (tie.spec
-    words-of-requires
-    slice-aggregate-put-row
-    is-gone-requires
+    (λ c κs. search needs)
+    (λ c. search needs)
+    (λ c κs. search needs)
     put-row-requires
-    same-length
+    (λ c. search needs)
     returns)

@@ -3,11 +3,12 @@ use mathlib.Core.Path.{_≡_, sym, ap, _∙_}
 use Prim.Native.Nat.{_<_}
 use native.Mathlib.Omega.{arith}
 use borrow.Author.Needs.{needs}
-use Rattle.rows.specs.Found.{placeOf}
+use Rattle.rows.specs.inner.Found.{placeOf}
 use Rattle.rows.specs.declared.Place.the-variants.{At}
 use Rattle.rows.proofs.Order.{found-at}
 use Rattle.rules.specs.Books.{StakeRow, noStake}
 use Rattle.rules.specs.Table.{keyOf}
+use Rattle.books.specs.Layout.{stakeWidth}
 use Rattle.books.specs.Words.{stakeRowAt}
 use Rattle.books.proofs.Lists.{rowOr}
 use Rattle.books.proofs.StakeRows.{find-stake}
@@ -19,27 +20,21 @@ abbrev st : tie.After-i → tie.Start
 st c = c .before .before .before .before
 
 abbrev none : tie.Start → StakeRow
-none c = noStake (c .args .pool) (c .args .account .0)
+none c = noStake (c .args .pool) (c .args .account)
 
-at-i : (c : tie.After-i) → placeOf (st c .args .stakes .now) 5 (st c .args .used) (keyOf (st c .args .pool) (st c .args .account .0)) ≡ At (c .i .given .0 .0)
+at-i : (c : tie.After-i) → placeOf (st c .args .stakes .now) stakeWidth (st c .args .used) (keyOf (st c .args .pool) (st c .args .account .0)) ≡ At (c .i .given .0 .0)
 at-i c = sym (c .before .before .find .ensures) ∙ c .i .given .1
 
 below : (c : tie.After-i) → c .i .given .0 .0 < st c .args .used
 below c =
     let a = st c .args in
-    found-at (a .stakes .now) 5 (a .used) (keyOf (a .pool) (a .account .0)) (c .i .given .0 .0) (st c .pre .table .sorted) (at-i c) .0
+    found-at (a .stakes .now) stakeWidth (a .used) (keyOf (a .pool) (a .account .0)) (c .i .given .0 .0) (st c .pre .table .sorted) (at-i c) .0
 
 find-requires : tie.Need-find-requires
 find-requires c κs = (omega arith, (c .before .pre .table .fits, c .before .pre .table .sorted))
 
-enum-known-i : tie.Need-enum-known-i
-enum-known-i c = search needs
-
 stake-at-requires : tie.Need-stake-at-requires
 stake-at-requires c κs = omega (arith, below (c .before), st (c .before) .pre .table .fits)
-
-enum-told : tie.Need-enum-told
-enum-told c = search needs
 
 returns : tie.Need-returns
 returns c =
@@ -58,4 +53,4 @@ returns-2 c =
 
 pub read-stake-spec : {M : Type 1} → statement M
 read-stake-spec =
-    tie.close (tie.spec find-requires enum-known-i stake-at-requires enum-told returns returns-2)
+    tie.close (tie.spec find-requires (λ c. search needs) stake-at-requires (λ c. search needs) returns returns-2)

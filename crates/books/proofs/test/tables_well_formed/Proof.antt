@@ -10,9 +10,10 @@ use borrow.Author.Tests.{not-true, not-false, eqb-true}
 use Rattle.rows.specs.Rows.{allZero}
 use Rattle.rows.proofs.Order.{false-true}
 use Rattle.rules.proofs.Decided.{lent-read}
+use Rattle.books.specs.Layout.{stakeWidth, offerWidth, booksWords}
 use Rattle.books.specs.Tables.{roomOf, usedOf}
 use Rattle.books.specs.Words.{Tables, tables, goodTables}
-use Rattle.books.specs.Held.{Fit}
+use Rattle.books.specs.inner.Held.{Fit}
 use Rattle.books.specs.Fresh.{roomsOf, lent}
 use Rattle.rules.proofs.Conditions.{bool-same, refuted}
 use Rattle.books.proofs.Counts.{used-most}
@@ -74,13 +75,10 @@ stakes-ok c = not-false _ (c .if2 .left)
 offers-ok : (c : tie.Else4) → c .before .before .offers-pass .result .ok ≡ true
 offers-ok c = not-false _ (c .if4 .left)
 
-twelve : (c : tie.Else1) → length (B (c .before)) ≡ 12
-twelve c = eqb-true _ 12 (sizes c .twelve)
+sized : (c : tie.Else1) → length (B (c .before)) ≡ booksWords
+sized c = eqb-true _ booksWords (sizes c .sized)
 
 -- ---- the needs
-
-is-lent-requires : tie.Need-is-lent-requires
-is-lent-requires c κs = tt
 
 returns : tie.Need-returns
 returns c = fails (c .before) (λ p. false-true (sym (sym (c .before .is-lent .ensures) ∙ not-true _ (c .if1 .taken)) ∙ p .lengths))
@@ -94,7 +92,7 @@ returns-2 c =
     fails (e .before) (λ p. false-true (sym (not-true _ (c .if2 .taken)) ∙ c .before .before .stakes-pass .ensures .ok ∙ p .stake-tests))
 
 same-sums-requires : tie.Need-same-sums-requires
-same-sums-requires c κs = omega (arith, twelve (else1 (c .before)))
+same-sums-requires c κs = omega (arith, sized (else1 (c .before)))
 
 returns-3 : tie.Need-returns-3
 returns-3 c =
@@ -111,7 +109,7 @@ returns-4 c =
     fails (e .before) (λ p. false-true (sym (not-true _ (c .if4 .taken)) ∙ c .before .before .offers-pass .ensures .ok ∙ p .offer-tests))
 
 same-sums-requires-2 : tie.Need-same-sums-requires-2
-same-sums-requires-2 c κs = omega (arith, twelve (else1 (else2 (else3 (c .before)))))
+same-sums-requires-2 c κs = omega (arith, sized (else1 (else2 (else3 (c .before)))))
 
 returns-5 : tie.Need-returns-5
 returns-5 c =
@@ -120,7 +118,7 @@ returns-5 c =
     fails (e .before) (λ p. false-true (sym (not-true _ (c .if5 .taken)) ∙ c .before .same-sums2 .ensures ∙ unpaid-made (S (e .before)) (O (e .before)) (B (e .before)) (fit (e .before)) _ (offers-ok d) (d .before .before .offers-pass .ensures) (p .unpaid)))
 
 settings-test-requires : tie.Need-settings-test-requires
-settings-test-requires c κs = twelve (else1 (else2 (else3 (else4 c))))
+settings-test-requires c κs = sized (else1 (else2 (else3 (else4 c))))
 
 returns-6 : tie.Need-returns-6
 returns-6 c =
@@ -128,30 +126,27 @@ returns-6 c =
     fails (e .before) (λ p. false-true (sym (not-true _ (c .if6 .taken)) ∙ c .before .settings-test .ensures ∙ p .figures))
 
 -- the number of used rows, as the passes counted them
-used-s : (c : tie.Else2) → c .before .before .stakes-pass .result .used ≡ usedOf 5 (S (else1 c .before))
+used-s : (c : tie.Else2) → c .before .before .stakes-pass .result .used ≡ usedOf stakeWidth (S (else1 c .before))
 used-s c = c .before .before .stakes-pass .ensures .used (stakes-ok c)
 
-used-o : (c : tie.Else4) → c .before .before .offers-pass .result .used ≡ usedOf 4 (O (else1 (else2 (else3 c)) .before))
+used-o : (c : tie.Else4) → c .before .before .offers-pass .result .used ≡ usedOf offerWidth (O (else1 (else2 (else3 c)) .before))
 used-o c = c .before .before .offers-pass .ensures .used (offers-ok c)
 
-stakes-end : (c : tie.After-blank) → c .blank .result ≡ allZero (drop (usedOf 5 (S (else1 (else2 (else3 (else4 (else5 (c .before .before))))) .before)) * 5) (S (else1 (else2 (else3 (else4 (else5 (c .before .before))))) .before)))
+stakes-end : (c : tie.After-blank) → c .blank .result ≡ allZero (drop (usedOf stakeWidth (S (else1 (else2 (else3 (else4 (else5 (c .before .before))))) .before)) * stakeWidth) (S (else1 (else2 (else3 (else4 (else5 (c .before .before))))) .before)))
 stakes-end c =
     let d = else2 (else3 (else4 (else5 (c .before .before)))) in
-    c .blank .ensures ∙ ap (λ (n : ℕ). allZero (drop (n * 5) (S (else1 d .before)))) (used-s d)
+    c .blank .ensures ∙ ap (λ (n : ℕ). allZero (drop (n * stakeWidth) (S (else1 d .before)))) (used-s d)
 
-offers-end : (c : tie.After-blank2) → c .blank2 .result ≡ allZero (drop (usedOf 4 (O (else1 (else2 (else3 (else4 (else5 (else6 (c .before .before)))))) .before)) * 4) (O (else1 (else2 (else3 (else4 (else5 (else6 (c .before .before)))))) .before)))
+offers-end : (c : tie.After-blank2) → c .blank2 .result ≡ allZero (drop (usedOf offerWidth (O (else1 (else2 (else3 (else4 (else5 (else6 (c .before .before)))))) .before)) * 4) (O (else1 (else2 (else3 (else4 (else5 (else6 (c .before .before)))))) .before)))
 offers-end c =
     let d = else4 (else5 (else6 (c .before .before))) in
-    c .blank2 .ensures ∙ ap (λ (n : ℕ). allZero (drop (n * 4) (O (else1 (else2 (else3 d)) .before)))) (used-o d)
+    c .blank2 .ensures ∙ ap (λ (n : ℕ). allZero (drop (n * offerWidth) (O (else1 (else2 (else3 d)) .before)))) (used-o d)
 
 mul-blank : tie.Need-mul-blank
 mul-blank c =
     let d = else2 (else3 (else4 (else5 (c .before)))) in
     let e = else1 d in
-    record { fits = omega (arith, used-s d, used-most 5 (S (e .before)) 0 (roomOf 5 (S (e .before))), lent-read (roomsOf (given (st (e .before)))) (sizes e .rooms) .most-stakes) }
-
-blank-requires : tie.Need-blank-requires
-blank-requires c κs = tt
+    record { fits = omega (arith, used-s d, used-most stakeWidth (S (e .before)) 0 (roomOf stakeWidth (S (e .before))), lent-read (roomsOf (given (st (e .before)))) (sizes e .rooms) .most-stakes) }
 
 returns-7 : tie.Need-returns-7
 returns-7 c =
@@ -162,10 +157,7 @@ mul-blank-2 : tie.Need-mul-blank-2
 mul-blank-2 c =
     let d = else4 (else5 (else6 (c .before))) in
     let e = else1 (else2 (else3 d)) in
-    record { fits = omega (arith, used-o d, used-most 4 (O (e .before)) 0 (roomOf 4 (O (e .before))), lent-read (roomsOf (given (st (e .before)))) (sizes e .rooms) .most-offers) }
-
-blank-requires-2 : tie.Need-blank-requires-2
-blank-requires-2 c κs = tt
+    record { fits = omega (arith, used-o d, used-most offerWidth (O (e .before)) 0 (roomOf offerWidth (O (e .before))), lent-read (roomsOf (given (st (e .before)))) (sizes e .rooms) .most-offers) }
 
 returns-8 : tie.Need-returns-8
 returns-8 c =
@@ -196,7 +188,7 @@ pub tables-well-formed-spec : {M : Type 1} → statement M
 tables-well-formed-spec =
     tie.close
     (tie.spec
-    is-lent-requires
+    (λ c κs. tt)
     returns
     stakes-pass-requires
     returns-2
@@ -209,8 +201,8 @@ tables-well-formed-spec =
     settings-test-requires
     returns-6
     mul-blank
-    blank-requires
+    (λ c κs. tt)
     returns-7
     mul-blank-2
-    blank-requires-2
+    (λ c κs. tt)
     returns-8)

@@ -52,14 +52,8 @@ mul-add-carry c = halves-fit (mask-lt (c .args .a) 32) (shr-lt 32 32 (c .fits .b
 mul-add-carry-2 : tie.Need-mul-add-carry-2
 mul-add-carry-2 c = halves-fit (shr-lt 32 32 (c .fits .a .fits)) (mask-lt (c .args .b) 32)
 
-add-carry-requires : tie.Need-add-carry-requires
-add-carry-requires c κs = search needs
-
 mul-add-carry-3 : tie.Need-mul-add-carry-3
 mul-add-carry-3 c = halves-fit (mask-lt (c .before .args .a) 32) (mask-lt (c .before .args .b) 32)
-
-add-carry-requires-2 : tie.Need-add-carry-requires-2
-add-carry-requires-2 c κs = search needs
 
 mul-t9 : tie.Need-mul-t9
 mul-t9 c =
@@ -93,9 +87,9 @@ product-spec =
     (tie.spec
     mul-add-carry
     mul-add-carry-2
-    add-carry-requires
+    (λ c κs. search needs)
     mul-add-carry-3
-    add-carry-requires-2
+    (λ c κs. search needs)
     mul-t9
     add-t11
     add-t13

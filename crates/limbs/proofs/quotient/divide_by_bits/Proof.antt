@@ -43,15 +43,6 @@ doubled c =
     let below : l .i ≤ 63 = omega arith in
     mod-eq-of-lt (omega (arith, pow-mono below))
 
-norm-shift-requires : tie.Need-norm-shift-requires Inv-loop μ-loop
-norm-shift-requires c κs = search needs
-
-cast-v : tie.Need-cast-v Inv-loop μ-loop
-cast-v c = search needs
-
-shl-v : tie.Need-shl-v Inv-loop μ-loop
-shl-v c = search needs
-
 shifted-requires : tie.Need-shifted-requires Inv-loop μ-loop
 shifted-requires c κs = (omega arith, omega (arith, mul-le-mul-right (2 ^ (c .norm-shift .result)) (c .before .pre)))
 
@@ -70,12 +61,6 @@ step-requires c κs = (c .before .loop .inv .1, top-short (c .before .loop .low)
 add-quotient : tie.Need-add-quotient Inv-loop μ-loop
 add-quotient c = omega (arith, doubled (c .before .before))
 
-add-i : tie.Need-add-i Inv-loop μ-loop
-add-i c = search needs
-
-loop-less : tie.Need-loop-less Inv-loop μ-loop
-loop-less c = search needs
-
 loop-again : tie.Need-loop-again Inv-loop μ-loop
 loop-again c =
     let t = c .before .step in
@@ -86,12 +71,6 @@ loop-again c =
       rw (doubled (c .before .before), pow-add 2 (l .i) 1) (omega arith),
       rw (doubled (c .before .before), pow-add 2 (l .i) 1) (one-more _ (2 ^ (l .i)) (l .quotient) _ (l .rest) (l .low) _ _ (t .result .bit) (t .result .rest) (l .inv .4) (top-bit (l .low)) (t .ensures .0)),
     )
-
-cast-t11 : tie.Need-cast-t11 Inv-loop μ-loop
-cast-t11 c = search needs
-
-shr-t14 : tie.Need-shr-t14 Inv-loop μ-loop
-shr-t14 c = search needs
 
 returns : tie.Need-returns Inv-loop μ-loop
 returns c =
@@ -108,16 +87,16 @@ divide-by-bits-spec =
     (tie.spec
     Inv-loop
     μ-loop
-    norm-shift-requires
-    cast-v
-    shl-v
+    (λ c κs. search needs)
+    (λ c. search needs)
+    (λ c. search needs)
     shifted-requires
     loop-holds
     step-requires
     add-quotient
-    add-i
-    loop-less
+    (λ c. search needs)
+    (λ c. search needs)
     loop-again
-    cast-t11
-    shr-t14
+    (λ c. search needs)
+    (λ c. search needs)
     returns)

@@ -40,25 +40,10 @@ module _ (h l s : ℕ) (pre : (s < 64) × ((h + 1) * 2 ^ s ≤ 2 ^ 64)) where
       (subst (λ (B : ℕ). (h * 2 ^ s + l / 2 ^ (64 - s)) * B + (l % 2 ^ (64 - s)) * 2 ^ s ≡ (h * B + l) * 2 ^ s) word
       (moved (2 ^ s) (2 ^ (64 - s)) h l (l / 2 ^ (64 - s)) (l % 2 ^ (64 - s)) (split l (64 - s))))
 
-shl-t6 : tie.Need-shl-t6
-shl-t6 c = search needs
-
-sub-t7 : tie.Need-sub-t7
-sub-t7 c = search needs
-
-cast-t8 : tie.Need-cast-t8
-cast-t8 c = search needs
-
-shr-t9 : tie.Need-shr-t9
-shr-t9 c = search needs
-
 add-t10 : tie.Need-add-t10
 add-t10 c =
     let b = c .before .before .before in
     fits (b .args .n .high) (b .args .n .low) (b .args .s) (b .pre) (omega arith)
-
-shl-t12 : tie.Need-shl-t12
-shl-t12 c = search needs
 
 returns : tie.Need-returns
 returns c = rw (c .if1 .taken, mul-one)
@@ -69,4 +54,4 @@ returns-2 c =
     value (b .args .n .high) (b .args .n .low) (b .args .s) (b .pre)
 
 pub shifted-spec : {M : Type 1} → statement M
-shifted-spec = tie.close (tie.spec shl-t6 sub-t7 cast-t8 shr-t9 add-t10 shl-t12 returns returns-2)
+shifted-spec = tie.close (tie.spec (λ c. search needs) (λ c. search needs) (λ c. search needs) (λ c. search needs) add-t10 (λ c. search needs) returns returns-2)

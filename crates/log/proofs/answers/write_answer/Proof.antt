@@ -5,18 +5,6 @@ use borrow.Author.Needs.{needs}
 use Rattle.log.proofs.answers.write_answer.Statement.{statement}
 use Rattle.log.proofs.answers.write_answer.Tie as tie
 
-write-line-requires : tie.Need-write-line-requires
-write-line-requires c κs = search needs
-
-write-transfer-requires : tie.Need-write-transfer-requires
-write-transfer-requires c κs = search needs
-
-write-transfer-requires-2 : tie.Need-write-transfer-requires-2
-write-transfer-requires-2 c κs = search needs
-
-same-length : tie.Need-same-length
-same-length c = search needs
-
 returns : tie.Need-returns
 returns c =
     let line = c .before .before .before .before .before .before .before .before .before .before .write-line .ensures in
@@ -28,8 +16,8 @@ pub write-answer-spec : {M : Type 1} → statement M
 write-answer-spec =
     tie.close
     (tie.spec
-    write-line-requires
-    write-transfer-requires
-    write-transfer-requires-2
-    same-length
+    (λ c κs. search needs)
+    (λ c κs. search needs)
+    (λ c κs. search needs)
+    (λ c. search needs)
     returns)

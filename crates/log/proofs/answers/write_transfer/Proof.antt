@@ -7,35 +7,11 @@ use borrow.Author.Needs.{needs}
 use Rattle.log.proofs.answers.write_transfer.Statement.{statement}
 use Rattle.log.proofs.answers.write_transfer.Tie as tie
 
-slice-aggregate-put-bytes : tie.Need-slice-aggregate-put-bytes
-slice-aggregate-put-bytes c = search needs
-
-put-bytes-requires : tie.Need-put-bytes-requires
-put-bytes-requires c κs = search needs
-
-put-pair-requires : tie.Need-put-pair-requires
-put-pair-requires c κs = search needs
-
-slice-aggregate-put-bytes-2 : tie.Need-slice-aggregate-put-bytes-2
-slice-aggregate-put-bytes-2 c = search needs
-
-put-bytes-requires-2 : tie.Need-put-bytes-requires-2
-put-bytes-requires-2 c κs = search needs
-
-put-pair-requires-2 : tie.Need-put-pair-requires-2
-put-pair-requires-2 c κs = search needs
-
-same-length : tie.Need-same-length
-same-length c = search needs
-
 returns : tie.Need-returns
 returns c =
     let p = c .before .before .before .before .before .before .put-bytes in
     let q = c .before .before .put-pair in
     (wrote-as (sym (text-in (c .before .before .before .before .before .before .before .before .before .before .before .args .transfer) (c .before .before .before .before .before .before .before .before .before .match .keys1))) (wrote-more (omega arith) (p .ensures) (q .ensures .0)), omega (arith, p .ensures .place, q .ensures .1))
-
-same-length-2 : tie.Need-same-length-2
-same-length-2 c = search needs
 
 returns-2 : tie.Need-returns-2
 returns-2 c =
@@ -52,14 +28,14 @@ pub write-transfer-spec : {M : Type 1} → statement M
 write-transfer-spec =
     tie.close
     (tie.spec
-    slice-aggregate-put-bytes
-    put-bytes-requires
-    put-pair-requires
-    slice-aggregate-put-bytes-2
-    put-bytes-requires-2
-    put-pair-requires-2
-    same-length
+    (λ c. search needs)
+    (λ c κs. search needs)
+    (λ c κs. search needs)
+    (λ c. search needs)
+    (λ c κs. search needs)
+    (λ c κs. search needs)
+    (λ c. search needs)
     returns
-    same-length-2
+    (λ c. search needs)
     returns-2
     returns-3)

@@ -1,17 +1,17 @@
 -- `read_head` meets its contract: each test is one of the definition's.
 use mathlib.Core.Path.{_≡_, sym, _∙_}
-use mathlib.Core.Bool.{true, false}
+use mathlib.Core.Bool.{true}
 use borrow.Author.Needs.{needs}
 use borrow.Author.Tests.{eq-eqb, ne-eqb, not-true, not-false}
 use lib.Dec.{eqb}
 use lib.ListN.{length}
 use Rattle.log.specs.Bytes.{wordAt}
-use Rattle.log.specs.Opening.{named, versioned, headOf}
+use Rattle.log.specs.Opening.{headBytes, named, versioned, headOf}
 use Rattle.log.proofs.header.read_head.Statement.{statement}
 use Rattle.log.proofs.header.read_head.Tie as tie
 
 -- the tests that were passed, by the place behind each
-whole : (c : tie.Else1) → eqb (length (c .before .before .args .bytes .now)) 16 ≡ true
+whole : (c : tie.Else1) → eqb (length (c .before .before .args .bytes .now)) headBytes ≡ true
 whole c = eq-eqb _ _ (c .if1 .left)
 
 name : (c : tie.Else2) → named (c .before .before .before .before .args .bytes .now) ≡ true
@@ -22,24 +22,15 @@ version c = sym (c .before .is-versioned .ensures) ∙ not-false (c .before .is-
 
 returns : tie.Need-returns
 unfolding headOf
-returns c = rw (ne-eqb (length (c .before .before .args .bytes .now)) 16 (c .if1 .taken))
-
-is-named-requires : tie.Need-is-named-requires
-is-named-requires c κs = search needs
+returns c = rw (ne-eqb (length (c .before .before .args .bytes .now)) headBytes (c .if1 .taken))
 
 returns-2 : tie.Need-returns-2
 unfolding headOf
 returns-2 c = rw (whole (c .before .before), sym (c .before .is-named .ensures) ∙ not-true (c .before .is-named .result) (c .if2 .taken))
 
-is-versioned-requires : tie.Need-is-versioned-requires
-is-versioned-requires c κs = search needs
-
 returns-3 : tie.Need-returns-3
 unfolding headOf
 returns-3 c = rw (whole (c .before .before .before .before), name (c .before .before), sym (c .before .is-versioned .ensures) ∙ not-true (c .before .is-versioned .result) (c .if3 .taken))
-
-word-at-requires : tie.Need-word-at-requires
-word-at-requires c κs = search needs
 
 returns-4 : tie.Need-returns-4
 unfolding headOf
@@ -57,10 +48,10 @@ read-head-spec =
     tie.close
     (tie.spec
     returns
-    is-named-requires
+    (λ c κs. search needs)
     returns-2
-    is-versioned-requires
+    (λ c κs. search needs)
     returns-3
-    word-at-requires
+    (λ c κs. search needs)
     returns-4
     returns-5)

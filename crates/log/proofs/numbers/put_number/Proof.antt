@@ -5,17 +5,8 @@ use borrow.Author.Needs.{needs}
 use Rattle.log.proofs.numbers.put_number.Statement.{statement}
 use Rattle.log.proofs.numbers.put_number.Tie as tie
 
-put-digits-requires : tie.Need-put-digits-requires
-put-digits-requires c κs = search needs
-
 slice-write-text : tie.Need-slice-write-text
 slice-write-text c = search needs
-
-add-result : tie.Need-add-result
-add-result c = search needs
-
-same-length : tie.Need-same-length
-same-length c = search needs
 
 returns : tie.Need-returns
 returns c =
@@ -25,4 +16,4 @@ returns c =
 
 pub put-number-spec : {M : Type 1} → statement M
 put-number-spec =
-    tie.close (tie.spec put-digits-requires slice-write-text add-result same-length returns)
+    tie.close (tie.spec (λ c κs. search needs) slice-write-text (λ c. search needs) (λ c. search needs) returns)

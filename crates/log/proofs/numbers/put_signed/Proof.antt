@@ -30,21 +30,6 @@ size c = c .before .magnitude .ensures ∙ ap natAbs (held (c .before .before))
 sign : (c : tie.After-is-negative) → c .is-negative .result ≡ ltZ (c .before .before .before .before .args .number) (pos 0)
 sign c = c .is-negative .ensures ∙ ap (λ (z : ℤ). ltZ z (pos 0)) (held (c .before .before))
 
-to-word-requires : tie.Need-to-word-requires
-to-word-requires c κs = search needs
-
-magnitude-requires : tie.Need-magnitude-requires
-magnitude-requires c κs = search needs
-
-is-negative-requires : tie.Need-is-negative-requires
-is-negative-requires c κs = search needs
-
-slice-write-text : tie.Need-slice-write-text
-slice-write-text c = search needs
-
-add-put-number : tie.Need-add-put-number
-add-put-number c = search needs
-
 put-number-requires : tie.Need-put-number-requires
 put-number-requires c κs = simp length-set (omega arith)
 
@@ -59,12 +44,6 @@ returns c =
     let e : 45 ∷ decimal (t .before .before .magnitude .result) ≡ signedDecimal (a .number) = ap (λ (n : ℕ). 45 ∷ decimal n) (size (t .before)) ∙ sym (signed-negative (a .number) (sym (sign (t .before)) ∙ t .if1 .taken)) in
     (wrote-as (ap (λ (l : List ℕ). followed l (a .end)) e) (wrote-more (omega arith) (wrote-byte (a .text .now) (a .at) 45 (omega arith)) (p .ensures .0)), omega (arith, p .ensures .1))
 
-put-number-requires-2 : tie.Need-put-number-requires-2
-put-number-requires-2 c κs = search needs
-
-same-length-2 : tie.Need-same-length-2
-same-length-2 c = search needs
-
 returns-2 : tie.Need-returns-2
 returns-2 c =
     let p = c .before .before .put-number2 in
@@ -77,14 +56,14 @@ pub put-signed-spec : {M : Type 1} → statement M
 put-signed-spec =
     tie.close
     (tie.spec
-    to-word-requires
-    magnitude-requires
-    is-negative-requires
-    slice-write-text
-    add-put-number
+    (λ c κs. search needs)
+    (λ c κs. search needs)
+    (λ c κs. search needs)
+    (λ c. search needs)
+    (λ c. search needs)
     put-number-requires
     same-length
     returns
-    put-number-requires-2
-    same-length-2
+    (λ c κs. search needs)
+    (λ c. search needs)
     returns-2)

@@ -9,14 +9,10 @@ use lib.Signed.{ltZ}
 use mir.Syntax.{w64}
 use mir.Val.{toZ, SFits}
 use Rattle.whole.proofs.Linear.{whole}
-use Rattle.losses.specs.Pool.{NoneBelow, stakeOf}
-use Rattle.losses.specs.Loss.{least, leftLast, restAfter}
+use Rattle.losses.specs.inner.Settling.{NoneBelow, stakeAtRow, least, leftLast, restAfter}
 use Rattle.losses.proofs.Rest.{rest-falls, rest-bound, not-over}
 use Rattle.losses.proofs.settle.over_limit.Statement.{statement}
 use Rattle.losses.proofs.settle.over_limit.Tie as tie
-
-add-any-negative : tie.Need-add-any-negative
-add-any-negative c = search needs
 
 any-negative-requires : tie.Need-any-negative-requires
 any-negative-requires c κs = let r = c .before .pre .room in omega (arith, r)
@@ -26,12 +22,9 @@ returns c =
     let st = c .before .before .before in
     let a = st .args in
     let s = a .stakes .now in
-    let none : NoneBelow s (a .from) (a .last + 1) = c .before .any-negative .ensures (not-true _ (c .if1 .taken)) in
+    let none : NoneBelow s (a .from) (a .last + 1) = c .before .any-negative .ensures .0 (not-true _ (c .if1 .taken)) in
     let f = rest-falls s (a .loss) (a .balance) (st .pre .most) (pos (a .loss)) (a .from) (a .last - a .from) refl (record { none = λ k p q. none .none k p (omega (arith, q, st .pre .order)) }) in
-    sym (not-over (stakeOf s (a .last)) (restAfter s (a .loss) (a .balance) (pos (a .loss)) (a .from) (a .last - a .from)) (none .none (a .last) (st .pre .order) (omega arith)) (omega (arith, f .0, st .pre .within)) (f .1))
-
-rest-for-requires : tie.Need-rest-for-requires
-rest-for-requires c κs = search needs
+    sym (not-over (stakeAtRow s (a .last)) (restAfter s (a .loss) (a .balance) (pos (a .loss)) (a .from) (a .last - a .from)) (none .none (a .last) (st .pre .order) (omega arith)) (omega (arith, f .0, st .pre .within)) (f .1))
 
 get-requires : tie.Need-get-requires
 get-requires c κs = let r = c .before .before .before .before .pre .room in omega (arith, r)
@@ -53,9 +46,6 @@ sub-requires c κs =
     let z = p .small (a .last) (p .order) (omega arith) in
     subst⁻¹ (SFits w64) (both c) (omega (arith, whole, b, z, p .few, p .order, p .within))
 
-less-requires : tie.Need-less-requires
-less-requires c κs = search needs
-
 returns-2 : tie.Need-returns-2
 returns-2 c = c .less .ensures ∙ ap (λ (z : ℤ). ltZ z least) (c .before .sub .ensures ∙ both (c .before .before))
 
@@ -63,11 +53,4 @@ pub over-limit-spec : {M : Type 1} → statement M
 over-limit-spec =
     tie.close
     (tie.spec
-    add-any-negative
-    any-negative-requires
-    returns
-    rest-for-requires
-    get-requires
-    sub-requires
-    less-requires
-    returns-2)
+    (λ c. search needs) any-negative-requires returns (λ c κs. search needs) get-requires sub-requires (λ c κs. search needs) returns-2)

@@ -11,8 +11,7 @@ use mir.Val.{toZ, SFits}
 use mir.ValLaws.{toZ-pos}
 use Rattle.whole.specs.Whole.{Within}
 use Rattle.rules.specs.Limits.{limit}
-use Rattle.losses.specs.Pool.{stakeOf}
-use Rattle.losses.specs.Loss.{restAfter}
+use Rattle.losses.specs.inner.Settling.{stakeAtRow, restAfter}
 use Rattle.losses.proofs.Rest.{Resting, rest-done, rest-step, rest-on, rest-fits}
 use Rattle.losses.proofs.settle.rest_for.Statement.{statement}
 use Rattle.losses.proofs.settle.rest_for.Tie as tie
@@ -35,7 +34,7 @@ get-requires : tie.Need-get-requires Inv-loop μ-loop
 get-requires c κs = let r = c .before .before .before .pre .room in omega (arith, r)
 
 -- the stake that was read, and its bounds
-stake-is : (c : tie.After-get Inv-loop μ-loop) → toZ w64 (c .get .result) ≡ stakeOf (c .before .before .before .before .args .stakes .now) (c .before .before .loop .i)
+stake-is : (c : tie.After-get Inv-loop μ-loop) → toZ w64 (c .get .result) ≡ stakeAtRow (c .before .before .before .before .args .stakes .now) (c .before .before .loop .i)
 stake-is c = ap (toZ w64) (c .get .ensures)
 
 small : (c : tie.After-get Inv-loop μ-loop) → Within limit (toZ w64 (c .get .result))
@@ -54,12 +53,6 @@ sub-requires c κs =
     let l = g .before .before .loop in
     let p = g .before .before .before .before .pre in
     subst⁻¹ (λ (z : ℤ). SFits w64 (toZ w64 (l .rest) -ℤ z)) (c .cut-of .ensures) (rest-fits (p .most) (small g) (l .inv .2) (l .inv .0) false (omega (arith, p .few, l .inv .1)) (p .within))
-
-add-i : tie.Need-add-i Inv-loop μ-loop
-add-i c = search needs
-
-loop-less : tie.Need-loop-less Inv-loop μ-loop
-loop-less c = search needs
 
 loop-again : tie.Need-loop-again Inv-loop μ-loop
 loop-again c =
@@ -85,13 +78,4 @@ pub rest-for-spec : {M : Type 1} → statement M
 rest-for-spec =
     tie.close
     (tie.spec
-    Inv-loop
-    μ-loop
-    loop-holds
-    get-requires
-    cut-of-requires
-    sub-requires
-    add-i
-    loop-less
-    loop-again
-    returns)
+    Inv-loop μ-loop loop-holds get-requires cut-of-requires sub-requires (λ c. search needs) (λ c. search needs) loop-again returns)

@@ -1,4 +1,4 @@
--- `cut_of` meets its contract, by the cases of `cutOf`.
+-- `cut_of` meets its contract, by the cases of `loweredBy`.
 use mathlib.Core.Path.{_≡_, sym, _∙_, ap}
 use mathlib.Core.Bool.{false}
 use borrow.Author.Needs.{needs}
@@ -24,12 +24,6 @@ returns-2 c =
     let a = c .before .before .args in
     rw (c .if2 .taken) (sym (cut-last (a .loss) (a .balance) (toZ w64 (a .rest)) (toZ w64 (a .stake)) (some (c .before))))
 
-share-of-requires : tie.Need-share-of-requires
-share-of-requires c κs = search needs
-
-lesser-requires : tie.Need-lesser-requires
-lesser-requires c κs = search needs
-
 returns-3 : tie.Need-returns-3
 returns-3 c =
     let e = c .before .before in
@@ -37,4 +31,4 @@ returns-3 c =
     rw (e .if2 .left) (c .lesser .ensures ∙ ap (λ (z : ℤ). minZ z (toZ w64 (a .rest))) (c .before .share-of .ensures) ∙ sym (cut-mid (a .loss) (a .balance) (toZ w64 (a .rest)) (toZ w64 (a .stake)) (some (e .before))))
 
 pub cut-of-spec : {M : Type 1} → statement M
-cut-of-spec = tie.close (tie.spec returns returns-2 share-of-requires lesser-requires returns-3)
+cut-of-spec = tie.close (tie.spec returns returns-2 (λ c κs. search needs) (λ c κs. search needs) returns-3)

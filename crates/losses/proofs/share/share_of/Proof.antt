@@ -11,7 +11,7 @@ use Rattle.whole.proofs.Linear.{whole, abs}
 use Rattle.whole.proofs.Shares.{share-le}
 use Rattle.whole.proofs.Words.{number-back}
 use Rattle.limbs.proofs.Cases.{signed-exact}
-use Rattle.losses.specs.Loss.{quotientOf}
+use Rattle.losses.specs.inner.Settling.{quotientOf}
 use Rattle.losses.proofs.share.share_of.Statement.{statement}
 use Rattle.losses.proofs.share.share_of.Tie as tie
 
@@ -21,12 +21,6 @@ part s = share (toZ w64 (s .args .stake)) (s .args .loss) (s .args .balance)
 small : (s : tie.Start) → natAbs (part s) < 2 ^ 63
 small s = omega (arith, share-le (toZ w64 (s .args .stake)) (s .args .loss) (s .args .balance) (s .pre .most), abs (part s), s .pre .small)
 
-signed-mul-div-requires : tie.Need-signed-mul-div-requires
-signed-mul-div-requires c κs = search needs
-
-quotient-of-requires : tie.Need-quotient-of-requires
-quotient-of-requires c κs = search needs
-
 returns : tie.Need-returns
 returns c =
     let s = c .before .before in
@@ -34,4 +28,4 @@ returns c =
     ap (toZ w64) (c .quotient-of .ensures ∙ ap quotientOf (c .before .signed-mul-div .ensures ∙ exact)) ∙ number-back (part s) (omega (arith, whole, small s, abs (part s)))
 
 pub share-of-spec : {M : Type 1} → statement M
-share-of-spec = tie.close (tie.spec signed-mul-div-requires quotient-of-requires returns)
+share-of-spec = tie.close (tie.spec (λ c κs. search needs) (λ c κs. search needs) returns)

@@ -6,31 +6,11 @@ use lib.Signed.{mag}
 use mir.Syntax.{w64}
 use mir.Val.{ofZ}
 use mir.ValLaws.{toZ-ofZ}
+use Rattle.pasumorip.specs.Face.{answerLength}
 use Rattle.pasumorip.proofs.Facts.{filled}
 use borrow.Author.Needs.{needs}
 use Rattle.pasumorip.proofs.words.tell_answer.Statement.{statement}
 use Rattle.pasumorip.proofs.words.tell_answer.Tie as tie
-
-to-word-requires : tie.Need-to-word-requires
-to-word-requires c κs = search needs
-
-to-word-requires-2 : tie.Need-to-word-requires-2
-to-word-requires-2 c κs = search needs
-
-answer-words-requires : tie.Need-answer-words-requires
-answer-words-requires c κs = search needs
-
-slice-aggregate-write-row : tie.Need-slice-aggregate-write-row
-slice-aggregate-write-row c = search needs
-
-write-row-requires : tie.Need-write-row-requires
-write-row-requires c κs = search needs
-
-cast-result : tie.Need-cast-result
-cast-result c = search needs
-
-same-length : tie.Need-same-length
-same-length c = search needs
 
 returns : tie.Need-returns
 returns c =
@@ -41,7 +21,7 @@ returns c =
     let f = toZ-ofZ w64 (a .first) record { sfits = first } in
     let g = toZ-ofZ w64 (a .second) record { sfits = second } in (
       refl,
-      c .before .before .before .write-row .ensures ∙ filled (s .args .words .now) _ 9 (s .pre .0) ∙ c .before .before .before .before .before .before .answer-words .ensures
+      c .before .before .before .write-row .ensures ∙ filled (s .args .words .now) _ answerLength (s .pre .0) ∙ c .before .before .before .before .before .before .answer-words .ensures
           ∙ ap₂ {C = List ℕ} (λ (x y : ℕ). a .code ∷ x ∷ y ∷ a .one .kind ∷ a .one .account .0 ∷ a .one .amount ∷ a .two .kind ∷ a .two .account .0 ∷ a .two .amount ∷ []) (c .before .before .before .before .before .before .before .before .before .to-word .ensures ∙ ap (ofZ w64) f) (c .before .before .before .before .before .before .before .to-word2 .ensures ∙ ap (ofZ w64) g),
     )
 
@@ -49,11 +29,11 @@ pub tell-answer-spec : {M : Type 1} → statement M
 tell-answer-spec =
     tie.close
     (tie.spec
-    to-word-requires
-    to-word-requires-2
-    answer-words-requires
-    slice-aggregate-write-row
-    write-row-requires
-    cast-result
-    same-length
+    (λ c κs. search needs)
+    (λ c κs. search needs)
+    (λ c κs. search needs)
+    (λ c. search needs)
+    (λ c κs. search needs)
+    (λ c. search needs)
+    (λ c. search needs)
     returns)

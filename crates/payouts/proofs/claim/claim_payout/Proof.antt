@@ -1,99 +1,49 @@
 -- `claim_payout` meets its contract: settled, then refused, answered or paid.
-use Rattle.books.specs.Words.{Tables, tables, result, acted}
-use Rattle.payouts.specs.Payouts.{ClaimSettled}
-use borrow.Author.Needs.{needs}
-use mathlib.Core.Path.{sym, ap, _∙_, subst}
-use Rattle.rules.specs.declared.Answer.{Answer}
-use Rattle.books.proofs.Good.{good-back}
-use lib.IntN.{pos}
+use mathlib.Core.Path.{_≡_, ap, _∙_}
 use native.Mathlib.Omega.{arith}
-use Rattle.rules.specs.Answers.{done, noTransfer}
+use borrow.Author.Needs.{needs}
+use Rattle.rules.specs.Payouts.{claimPayout}
+use Rattle.books.specs.Words.{Tables, tables, booksOf, acted}
+use Rattle.payouts.specs.declared.claim.Claimed.{Claimed}
+use Rattle.payouts.proofs.Openings.{refused-is, told-is}
+use Rattle.payouts.proofs.Claims as claims
 use Rattle.payouts.proofs.claim.claim_payout.Statement.{statement}
 use Rattle.payouts.proofs.claim.claim_payout.Tie as tie
 
-settle-claim-requires : tie.Need-settle-claim-requires
-settle-claim-requires c κs = search needs
+abbrev tab : tie.Start → Tables
+tab s = tables (s .args .stakes .now) (s .args .offers .now) (s .args .books .now)
 
-enum-known-code : tie.Need-enum-known-code
-enum-known-code c = search needs
+abbrev start : tie.After-settle-claim → tie.Start
+start c = c .before .before .before .before .before .before .before
 
-refuse-requires : tie.Need-refuse-requires
-refuse-requires c κs = search needs
-
-enum-known-cover : tie.Need-enum-known-cover
-enum-known-cover c = search needs
+-- what was settled: its plan, and what its answer and its writing ask
+settled : (c : tie.After-settle-claim) (x : Claimed) → c .settle-claim .result ≡ x →
+    let s = start c in
+    (claims.claimedPlan (booksOf (tab s)) (s .args .c .lender) x ≡ claimPayout (booksOf (tab s)) (s .args .signer) (s .args .c)) × claims.ClaimReady (tab s) x
+settled c x e = let s = start c in claims.settled (tab s) (s .pre .0) (s .args .signer) (s .args .c) (s .pre .1) _ x (c .settle-claim .ensures) e
 
 tell-requires : tie.Need-tell-requires
-tell-requires c κs =
-    let b = c .before .before .before .before .before .before .before .before .before .before in
-    let a = b .args in
-    let t : Tables = tables (a .stakes .now) (a .offers .now) (a .books .now) in
-    let q = subst (ClaimSettled t (a .signer) (a .c)) (c .before .cover .given .1) (c .before .before .before .settle-claim .ensures) in
-    (omega arith, q .ready)
-
-enum-known-amount : tie.Need-enum-known-amount
-enum-known-amount c = search needs
+tell-requires c κs = let m = c .before in (omega arith, settled (m .before .before) _ (m .cover .given .1) .1)
 
 pay-claim-requires : tie.Need-pay-claim-requires
-pay-claim-requires c κs =
-    let b = c .before .before .before .before .before .before .before .before .before .before .before .before .before in
-    let a = b .args in
-    let t : Tables = tables (a .stakes .now) (a .offers .now) (a .books .now) in
-    let q = subst (ClaimSettled t (a .signer) (a .c)) (c .before .before .before .before .amount .given .1) (c .before .before .before .before .before .before .settle-claim .ensures) in
-    q .ready
-
-same-length : tie.Need-same-length
-same-length c = search needs
-
-same-length-2 : tie.Need-same-length-2
-same-length-2 c = search needs
-
-same-length-3 : tie.Need-same-length-3
-same-length-3 c = search needs
+pay-claim-requires c κs = let m = c .before .before .before .before in settled (m .before .before) _ (m .p .given .1) .1
 
 returns : tie.Need-returns
-returns c =
-    let b = c .before .before .before .before .before .before .before .before .before .before .before in
-    let a = b .args in
-    let t : Tables = tables (a .stakes .now) (a .offers .now) (a .books .now) in
-    let q = subst (ClaimSettled t (a .signer) (a .c)) (c .before .before .code .given .1) (c .before .before .before .before .settle-claim .ensures) in
-    ap (λ (x : Answer). result x t) (c .refuse .ensures) ∙ ap (acted t) (q .plan)
-
-same-length-4 : tie.Need-same-length-4
-same-length-4 c = search needs
-
-same-length-5 : tie.Need-same-length-5
-same-length-5 c = search needs
-
-same-length-6 : tie.Need-same-length-6
-same-length-6 c = search needs
+returns c = let m = c .before .before in refused-is (tab (start (m .before .before))) _ _ _ (c .refuse .ensures) (settled (m .before .before) _ (m .code .given .1) .0)
 
 returns-2 : tie.Need-returns-2
 returns-2 c =
-    let b = c .before .before .before .before .before .before .before .before .before .before .before in
-    let a = b .args in
-    let t : Tables = tables (a .stakes .now) (a .offers .now) (a .books .now) in
-    let q = subst (ClaimSettled t (a .signer) (a .c)) (c .before .before .cover .given .1) (c .before .before .before .before .settle-claim .ensures) in
-    ap (λ (x : Answer). result x t) (c .tell .ensures)
-    ∙ ap (result (done (pos 0) (pos (c .before .before .cover .given .0 .0)) noTransfer noTransfer)) (sym (good-back t (b .pre .0) (λ j. c .before .before .before .before .before .before .before .before .before .before .slice-known .given j .fits) (λ j. c .before .before .before .before .before .before .before .before .slice-known3 .given j .fits)))
-    ∙ ap (acted t) (q .plan)
-
-same-length-7 : tie.Need-same-length-7
-same-length-7 c = search needs
-
-same-length-8 : tie.Need-same-length-8
-same-length-8 c = search needs
-
-same-length-9 : tie.Need-same-length-9
-same-length-9 c = search needs
+    let m = c .before .before in
+    let k = m .before .before in
+    let l = k .before .before .before .before in
+    told-is (tab (start k)) _ _ (start k .pre .0) (λ j. l .before .before .slice-known .given j .fits) (λ j. l .slice-known3 .given j .fits) _ _ (c .tell .ensures) (settled k _ (m .cover .given .1) .0)
 
 returns-3 : tie.Need-returns-3
 returns-3 c =
-    let b = c .before .before .before .before .before .before .before .before .before .before .before .before .before .before .before .before .before .before .before .before in
-    let a = b .args in
-    let t : Tables = tables (a .stakes .now) (a .offers .now) (a .books .now) in
-    let q = subst (ClaimSettled t (a .signer) (a .c)) (c .before .before .before .before .before .before .before .before .before .before .before .amount .given .1) (c .before .before .before .before .before .before .before .before .before .before .before .before .before .settle-claim .ensures) in
-    c .before .before .before .before .before .before .pay-claim .ensures ∙ ap (acted t) (q .plan)
+    let w = c .before .before .before .before .before .before in
+    let m = w .before .before .before .before .before in
+    let k = m .before .before in
+    w .pay-claim .ensures ∙ ap (acted (tab (start k))) (settled k _ (m .p .given .1) .0)
 
 pub claim-payout-spec : {M : Type 1} → statement M
-claim-payout-spec = tie.close (tie.spec settle-claim-requires enum-known-code refuse-requires enum-known-cover tell-requires enum-known-amount pay-claim-requires same-length same-length-2 same-length-3 returns same-length-4 same-length-5 same-length-6 returns-2 same-length-7 same-length-8 same-length-9 returns-3)
+claim-payout-spec = tie.close (tie.spec (λ c κs. search needs) (λ c. search needs) (λ c κs. search needs) (λ c. search needs) tell-requires (λ c. search needs) pay-claim-requires (λ c. search needs) (λ c. search needs) (λ c. search needs) returns (λ c. search needs) (λ c. search needs) (λ c. search needs) returns-2 (λ c. search needs) (λ c. search needs) (λ c. search needs) returns-3)

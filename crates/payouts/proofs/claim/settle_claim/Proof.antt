@@ -1,181 +1,151 @@
--- `settle_claim` meets its contract: each answer is its rung of the plan (`Claims`).
-use Prim.Native.Nat.{_-_, _^_, _<_}
-use lib.Signed.{mag, ltZ}
-use Rattle.books.proofs.Writing.{offer-is, unpaid-is}
-use borrow.Author.Tests.{not-true, not-false}
-use lib.IntN.{pos}
-use mathlib.Core.Bool.{true}
-use Rattle.rules.specs.Books.{OfferRow, offerAt, cover}
-use Rattle.whole.specs.Whole.{up}
-use Rattle.books.specs.Words.{Tables, tables, booksOf}
-use Rattle.payouts.proofs.PayoutCodes.{codeOf, code-is, Amount, amount-is, word-is, word-up, above-word, above-some, above-none}
-use Rattle.rules.specs.declared.ClaimCall.{ClaimCall}
-use borrow.Author.Needs.{needs}
+-- `settle_claim` meets its contract: each answer is its rung of `claimSettled`.
+use mathlib.Core.Path.{_≡_, sym, ap, _∙_}
+use Prim.Native.Nat.{ℕ, _-_, _^_, _≤_, _<_}
 use native.Mathlib.Omega.{arith}
-use mir.Val.{SFits, toZ}
-use mir.Syntax.{w64}
-use Rattle.payouts.proofs.Claims as claims
-use Rattle.books.specs.Held.{offerOf, HeldOffers}
+use borrow.Author.Tests.{eq-eqb, ne-eqb}
+use lib.Signed.{mag}
+use Rattle.whole.specs.Whole.{up}
+use Rattle.rules.specs.Books.{Books, unpaidOf}
 use Rattle.rules.specs.Payouts.{coverOf, claimable}
-use Rattle.books.proofs.Good.{good-read, offers-held}
-use mathlib.Core.Path.{_≡_, sym, ap, _∙_, subst⁻¹}
+use Rattle.books.specs.Words.{Tables, tables, booksOf}
+use Rattle.books.proofs.Good.{good-read}
+use Rattle.books.proofs.Writing.{unpaid-is}
+use Rattle.payouts.specs.declared.offer.Found.{Found}
+use Rattle.payouts.specs.declared.claim.Claimed.the-variants as claim
+use Rattle.payouts.specs.inner.Openings.{opening}
+use Rattle.payouts.specs.inner.Amounts.{claimableOf}
+use Rattle.payouts.specs.inner.Settled.{claimSettled}
+use Rattle.payouts.proofs.Openings.{Past, past, stopped, opened}
+use Rattle.payouts.proofs.OfferWrites.{found, found-is, searchable}
+use Rattle.payouts.proofs.Claims as claims
 use Rattle.payouts.proofs.claim.settle_claim.Statement.{statement}
 use Rattle.payouts.proofs.claim.settle_claim.Tie as tie
 
--- the tables and the call, at the function's entry
 abbrev tab : tie.Start → Tables
-tab b = tables (b .args .stakes .now) (b .args .offers .now) (b .args .books .now)
+tab s = tables (s .args .stakes .now) (s .args .offers .now) (s .args .books .now)
 
-abbrev call : tie.Start → ClaimCall
-call b = b .args .c
+abbrev b : tie.Start → Books
+b s = booksOf (tab s)
 
-to-word-requires : tie.Need-to-word-requires
-to-word-requires c κs = search needs
+-- what may be claimed
+abbrev n : tie.Start → ℕ
+n s = up (claimable (b s) (s .args .c))
 
--- the amount as a word
-in-range : (c : tie.After-to-word) → SFits w64 (call (c .before .before .before .before .before) .amount)
-in-range c =
-    let small : mag (call (c .before .before .before .before .before) .amount) < 2 ^ 63 = search in
-    record { sfits = small }
+-- ---- the first tests
 
-word-is-it : (c : tie.After-to-word) → toZ w64 (c .to-word .result) ≡ call (c .before .before .before .before .before) .amount
-word-is-it c = word-is _ _ (in-range c) (c .to-word .ensures)
+abbrev start : tie.After-open-call → tie.Start
+start c = c .before .before .before .before .before
 
-caller-code-requires : tie.Need-caller-code-requires
-caller-code-requires c κs =
-    let b = c .before .before .before .before .before in
-    good-read (tab b) (b .pre .0) .twelve
+open-call-requires : tie.Need-open-call-requires
+open-call-requires c κs = let s = c .before .before .before .before in good-read (tab s) (s .pre .0) .sized
 
--- the code that was computed is the rules'
-code-is-it : (c : tie.After-caller-code) → let b = c .before .before .before .before .before .before in c .caller-code .result ≡ codeOf (booksOf (tab b)) (b .args .signer) (call b .amount)
-code-is-it c =
-    let b = c .before .before .before .before .before .before in
-    code-is (tab b) (b .args .signer) (call b .amount) (c .before .to-word .result) (c .caller-code .result) (word-is-it (c .before)) (c .caller-code .ensures)
+opened-is : (c : tie.After-open-call) → let s = start c in c .open-call .result ≡ opening (b s) (s .args .signer) (s .args .c .amount)
+opened-is c =
+    let s = start c in
+    let small : mag (s .args .c .amount) < 2 ^ 63 = search in
+    opened (tab s) (s .args .signer) (s .args .c .amount) (record { sfits = small }) _ (c .open-call .ensures)
 
 returns : tie.Need-returns
+unfolding claimSettled
 returns c =
-    let b = c .before .before .before .before .before .before .before in
-    record { plan = claims.refused-is (tab b) (b .pre .0) (b .args .signer) (call b) (b .pre .1) _ (code-is-it (c .before)) (c .if1 .taken); ready = tt }
+    let s = start (c .before .before) in
+    stopped (b s) (s .args .signer) (s .args .c .amount) _ (opened-is (c .before .before)) (c .if1 .taken) claim.Refused _
 
--- past the first tests
-zero-is : (c : tie.Else1) → let b = c .before .before .before .before .before .before .before in codeOf (booksOf (tab b)) (b .args .signer) (call b .amount) ≡ 0
-zero-is c = sym (code-is-it (c .before)) ∙ c .if1 .left
+abbrev from : tie.Else1 → tie.Start
+from c = start (c .before .before)
 
-amount-is-it : (c : tie.Else1) → Amount (call (c .before .before .before .before .before .before .before) .amount)
-amount-is-it c = let b = c .before .before .before .before .before .before .before in amount-is (booksOf (tab b)) (b .args .signer) (call b .amount) (zero-is c)
+past-is : (c : tie.Else1) → let s = from c in Past (b s) (s .args .signer) (s .args .c .amount) (c .before .before .open-call .result .amount)
+past-is c = let s = from c in past (b s) (s .args .signer) (s .args .c .amount) _ (opened-is (c .before .before)) (c .if1 .left)
 
-word-up-is : (c : tie.Else1) → c .before .before .to-word .result ≡ up (call (c .before .before .before .before .before .before .before) .amount)
-word-up-is c = word-up _ _ (in-range (c .before .before)) (c .before .before .to-word .ensures) (amount-is-it c)
+-- ---- the offer's row and its cover
 
-used-offers-requires : tie.Need-used-offers-requires
-used-offers-requires c κs =
-    let b = c .before .before .before .before .before .before .before in
-    good-read (tab b) (b .pre .0) .offers-tidy
+find-offer-requires : tie.Need-find-offer-requires
+find-offer-requires c κs = let s = from c in searchable (tab s) (s .pre .0)
 
-read-offer-requires : tie.Need-read-offer-requires
-read-offer-requires c κs =
-    let b = c .before .before .before .before .before .before .before .before in
-    subst⁻¹ (HeldOffers (b .args .offers .now)) (c .used-offers .ensures) (offers-held (tab b) (b .pre .0))
+row-is : (c : tie.After-find-offer) → let s = from (c .before) in c .find-offer .result ≡ found (tab s) (s .args .c .pool) (s .args .c .offer)
+row-is c = let s = from (c .before) in c .find-offer .ensures ∙ found-is (tab s) (s .args .c .pool) (s .args .c .offer)
 
--- the row that was read is the offer's, and so is the cover
-row-is : (c : tie.After-read-offer) → let b = c .before .before .before .before .before .before .before .before .before in offerOf (c .read-offer .result) ≡ offerAt (booksOf (tab b)) (call b .pool) (call b .offer .0)
-row-is c = let b = c .before .before .before .before .before .before .before .before .before in c .read-offer .ensures ∙ offer-is (tab b) (call b .pool) (call b .offer .0)
+cover-is : (c : tie.After-find-offer) → let s = from (c .before) in c .find-offer .result .row .reserved - c .find-offer .result .row .paid ≡ coverOf (b s) (s .args .c)
+cover-is c = ap (λ (f : Found). f .row .reserved - f .row .paid) (row-is c)
 
-reserved-is : (c : tie.After-read-offer) → let b = c .before .before .before .before .before .before .before .before .before in c .read-offer .result .reserved ≡ offerAt (booksOf (tab b)) (call b .pool) (call b .offer .0) .reserved
-reserved-is c = ap (λ (r : OfferRow). r .reserved) (row-is c)
+-- what was paid is covered, and both are small
+pub record Row (f : Found) : Type 0 where
+  pub covered : f .row .paid ≤ f .row .reserved
+  pub most : f .row .reserved ≤ 2 ^ 62
 
-paid-is : (c : tie.After-read-offer) → let b = c .before .before .before .before .before .before .before .before .before in c .read-offer .result .paid ≡ offerAt (booksOf (tab b)) (call b .pool) (call b .offer .0) .paid
-paid-is c = ap (λ (r : OfferRow). r .paid) (row-is c)
-
-cover-is : (c : tie.After-read-offer) → let b = c .before .before .before .before .before .before .before .before .before in c .read-offer .result .reserved - c .read-offer .result .paid ≡ coverOf (booksOf (tab b)) (call b)
-cover-is c = ap (λ (r : OfferRow). cover r) (row-is c)
-
-sub-cover : tie.Need-sub-cover
-sub-cover c =
-    let b = c .before .before .before .before .before .before .before .before .before .before in
-    omega (arith, reserved-is (c .before), paid-is (c .before), claims.old-is (tab b) (b .pre .0) (b .args .signer) (call b) (b .pre .1) .covered)
+row : (c : tie.After-find-offer) → Row (c .find-offer .result)
+row c =
+    let s = from (c .before) in
+    let o = claims.old-is (tab s) (s .pre .0) (s .args .signer) (s .args .c) (s .pre .1) in
+    rw (row-is c) (record { covered = o .covered; most = omega (arith, o .most) })
 
 returns-2 : tie.Need-returns-2
+unfolding claimSettled
 returns-2 c =
-    let b = c .before .before .before .before .before .before .before .before .before .before .before in
-    record { plan = claims.uncovered-is (tab b) (b .pre .0) (b .args .signer) (call b) (b .pre .1) (zero-is (c .before .before .before .before)) (sym (cover-is (c .before .before)) ∙ c .if2 .taken); ready = tt }
+    let k = c .before .before in
+    rw (eq-eqb _ 0 (past-is (k .before) .none), eq-eqb _ 0 (sym (cover-is k) ∙ c .if2 .taken))
 
-some-cover : (c : tie.Else2) → let b = c .before .before .before .before .before .before .before .before .before .before .before in coverOf (booksOf (tab b)) (call b) ≡ 0 → ⊥
-some-cover c e = c .if2 .left (cover-is (c .before .before) ∙ e)
+-- ---- what may be claimed
+
+abbrev read : tie.Else2 → tie.After-find-offer
+read c = c .before .before
 
 claimable-requires : tie.Need-claimable-requires
 claimable-requires c κs =
-    let b = c .before .before .before .before .before .before .before .before .before .before .before in
-    claims.can-claim (tab b) (b .pre .0) (b .args .signer) (call b) (b .pre .1) _ (cover-is (c .before .before))
+    let k = read c in
+    let s = from (k .before) in
+    rw (cover-is k) (claims.can-claim (tab s) (s .pre .0) (s .args .signer) (s .args .c) (s .pre .1) _ (past-is (k .before)))
 
--- what may be claimed
-value : (c : tie.After-claimable) → let b = c .before .before .before .before .before .before .before .before .before .before .before .before in toZ w64 (c .claimable .result) ≡ claimable (booksOf (tab b)) (call b)
+value : (c : tie.After-claimable) → c .claimable .result ≡ n (from (read (c .before) .before))
 value c =
-    let b = c .before .before .before .before .before .before .before .before .before .before .before .before in
-    c .claimable .ensures ∙ claims.claimable-is (tab b) (b .pre .0) (b .args .signer) (call b) (b .pre .1) _ _ (cover-is (c .before .before .before)) (word-is-it (c .before .before .before .before .before .before .before))
-
-less-requires : tie.Need-less-requires
-less-requires c κs = search needs
-
-above : (c : tie.After-less) → let b = c .before .before .before .before .before .before .before .before .before .before .before .before .before in c .less .result ≡ ltZ (pos 0) (claimable (booksOf (tab b)) (call b))
-above c = c .less .ensures ∙ ap (ltZ (pos 0)) (value (c .before))
+    let k = read (c .before) in
+    let s = from (k .before) in
+    c .claimable .ensures
+    ∙ ap up (ap (claimableOf (s .args .books .now) (s .args .c .pool) (k .before .before .before .open-call .result .amount)) (cover-is k) ∙ claims.claimable-is (tab s) (s .pre .0) (s .args .signer) (s .args .c) (s .pre .1) _ (past-is (k .before)))
 
 returns-3 : tie.Need-returns-3
+unfolding claimSettled
 returns-3 c =
-    let b = c .before .before .before .before .before .before .before .before .before .before .before .before .before .before in
-    record {
-      plan = claims.nothing-is (tab b) (b .pre .0) (b .args .signer) (call b) (b .pre .1) (zero-is (c .before .before .before .before .before .before .before)) (some-cover (c .before .before .before)) _ (cover-is (c .before .before .before .before .before)) (above-none (claimable (booksOf (tab b)) (call b)) (sym (above (c .before)) ∙ not-true _ (c .if3 .taken)));
-      ready = omega (arith, cover-is (c .before .before .before .before .before), claims.old-is (tab b) (b .pre .0) (b .args .signer) (call b) (b .pre .1) .most);
-    }
+    let e = c .before .before in
+    let k = read e in
+    rw (eq-eqb _ 0 (past-is (k .before) .none), ne-eqb _ 0 (λ z. e .if2 .left (cover-is k ∙ z)), eq-eqb _ 0 (sym (value (c .before)) ∙ c .if3 .taken)) (ap claim.Nothing (cover-is k))
 
--- and that it is above 0
-some-is : (c : tie.Else3) → let b = c .before .before .before .before .before .before .before .before .before .before .before .before .before .before in ltZ (pos 0) (claimable (booksOf (tab b)) (call b)) ≡ true
-some-is c = sym (above (c .before)) ∙ not-false _ (c .if3 .left)
+-- ---- what is paid
 
-claim-is : (c : tie.Else3) → let b = c .before .before .before .before .before .before .before .before .before .before .before .before .before .before in c .before .before .claimable .result ≡ up (claimable (booksOf (tab b)) (call b))
-claim-is c =
-    let w : c .before .before .claimable .result < 2 ^ 64 = omega arith in
-    above-word _ _ w (value (c .before .before)) (some-is c)
+-- it is part of the cover, and of the unpaid sum
+abbrev settled : tie.After-struct-known3 → tie.Else2
+settled c = c .before .before .before
 
-positive : (c : tie.Else3) → let b = c .before .before .before .before .before .before .before .before .before .before .before .before .before .before in 0 < up (claimable (booksOf (tab b)) (call b))
-positive c =
-    let w : c .before .before .claimable .result < 2 ^ 64 = omega arith in
-    above-some _ _ w (value (c .before .before)) (some-is c)
+least : (c : tie.After-struct-known3) → c .before .before .claimable .result ≤ read (settled c) .find-offer .result .row .reserved - read (settled c) .find-offer .result .row .paid
+least c =
+    let k = read (settled c) in
+    let s = from (k .before) in
+    omega (arith, value (c .before .before), cover-is k, claims.least (tab s) (s .pre .0) (s .args .signer) (s .args .c) (s .pre .1) .cover)
 
-add-t15 : tie.Need-add-t15
-add-t15 c =
-    let b = c .before .before .before .before .before .before .before .before .before .before .before .before .before .before .before in
-    record { fits = omega (arith, claim-is (c .before), paid-is (c .before .before .before .before .before .before), claims.least (tab b) (b .pre .0) (b .args .signer) (call b) (b .pre .1) .cover, claims.old-is (tab b) (b .pre .0) (b .args .signer) (call b) (b .pre .1) .most, claims.old-is (tab b) (b .pre .0) (b .args .signer) (call b) (b .pre .1) .covered) }
-
-sub-t15 : tie.Need-sub-t15
-sub-t15 c =
-    let b = c .before .before .before .before .before .before .before .before .before .before .before .before .before .before .before in
-    omega (arith, claim-is (c .before), cover-is (c .before .before .before .before .before .before), claims.least (tab b) (b .pre .0) (b .args .signer) (call b) (b .pre .1) .cover)
+add-t13 : tie.Need-add-t13
+add-t13 c = let r = row (read (settled c)) in record { fits = omega (arith, least c, r .covered, r .most) }
 
 unpaid-requires : tie.Need-unpaid-requires
-unpaid-requires c κs =
-    let b = c .before .before .before .before .before .before .before .before .before .before .before .before .before .before .before in
-    (good-read (tab b) (b .pre .0) .twelve, omega (arith, b .pre .1 .pool))
+unpaid-requires c κs = let s = from (read (settled c) .before) in (good-read (tab s) (s .pre .0) .sized, omega (arith, s .pre .1 .pool))
 
-sub-t17 : tie.Need-sub-t17
-sub-t17 c =
-    let b = c .before .before .before .before .before .before .before .before .before .before .before .before .before .before .before .before in
-    let p : call b .pool < 4 = omega (arith, b .pre .1 .pool) in
-    omega (arith, claim-is (c .before .before), c .unpaid .ensures, unpaid-is (tab b) (call b .pool) p, claims.enough (tab b) (b .pre .0) (b .args .signer) (call b) (b .pre .1))
+sum-is : (c : tie.After-unpaid) → let s = from (read (settled (c .before)) .before) in c .unpaid .result ≡ unpaidOf (b s) (s .args .c .pool)
+sum-is c = let s = from (read (settled (c .before)) .before) in c .unpaid .ensures ∙ unpaid-is (tab s) (s .args .c .pool) (omega (arith, s .pre .1 .pool))
+
+sub-t14 : tie.Need-sub-t14
+sub-t14 c =
+    let s = from (read (settled (c .before)) .before) in
+    omega (arith, value (c .before .before .before), sum-is c, claims.enough (tab s) (s .pre .0) (s .args .signer) (s .args .c) (s .pre .1))
 
 returns-4 : tie.Need-returns-4
+unfolding claimSettled
 returns-4 c =
-    let b = c .before .before .before .before .before .before .before .before .before .before .before .before .before .before .before .before in
-    let p : call b .pool < 4 = omega (arith, b .pre .1 .pool) in
-    let m = c .unpaid .ensures ∙ unpaid-is (tab b) (call b .pool) p in
-    let r = reserved-is (c .before .before .before .before .before .before .before) in
-    let q = paid-is (c .before .before .before .before .before .before .before) in
-    let v = cover-is (c .before .before .before .before .before .before .before) in
-    let w = claim-is (c .before .before) in
-    record {
-      plan = claims.paid-plan (tab b) (b .pre .0) (b .args .signer) (call b) (b .pre .1) (zero-is (c .before .before .before .before .before .before .before .before .before)) (some-cover (c .before .before .before .before .before)) (positive (c .before .before)) _ _ _ _ _ w v r q m;
-      ready = claims.paid-ready (tab b) (b .pre .0) (b .args .signer) (call b) (b .pre .1) (positive (c .before .before)) _ _ _ _ w v r q;
-    }
+    let h = c .before .before in
+    let e = settled (c .before) in
+    let k = read e in
+    let s = from (k .before) in
+    let v = value (h .before) in
+    rw (eq-eqb _ 0 (past-is (k .before) .none), ne-eqb _ 0 (λ z. e .if2 .left (cover-is k ∙ z)), ne-eqb _ 0 (λ z. h .if3 .left (v ∙ z)))
+    (claims.paid-is (tab s) (s .pre .0) (s .args .signer) (s .args .c) (s .pre .1) _ _ _ (row-is k) v (sum-is c))
 
 pub settle-claim-spec : {M : Type 1} → statement M
-settle-claim-spec = tie.close (tie.spec to-word-requires caller-code-requires returns used-offers-requires read-offer-requires sub-cover returns-2 claimable-requires less-requires returns-3 add-t15 sub-t15 unpaid-requires sub-t17 returns-4)
+settle-claim-spec = tie.close (tie.spec open-call-requires returns find-offer-requires (λ c. row (c .before) .covered) returns-2 claimable-requires returns-3 add-t13 unpaid-requires sub-t14 (λ c. least (c .before)) returns-4)

@@ -1,114 +1,95 @@
--- `settle_pay` meets its contract: each answer is its rung of the plan (`Payments`).
-use Rattle.books.specs.Words.{Tables, tables, booksOf}
-use mir.Val.{SFits, toZ}
-use mir.Syntax.{w64}
-use Rattle.rules.specs.declared.PayCall.{PayCall}
-use Rattle.rules.specs.Payouts.{payable}
-use Prim.Native.Nat.{_^_, _<_}
-use borrow.Author.Needs.{needs}
-use Rattle.whole.specs.Whole.{up}
-use lib.Signed.{mag, ltZ}
-use lib.IntN.{pos}
-use Rattle.payouts.proofs.PayoutCodes.{codeOf, code-is, Amount, amount-is, word-is, word-up, above-word, above-some, above-none}
-use borrow.Author.Tests.{not-true, not-false}
-use Rattle.payouts.proofs.Payments as payments
-use Rattle.books.proofs.Good.{good-read}
-use native.Mathlib.Omega.{arith}
+-- `settle_pay` meets its contract: each answer is its rung of `paySettled`.
 use mathlib.Core.Path.{_≡_, sym, ap, _∙_}
+use Prim.Native.Nat.{_^_, _<_}
+use native.Mathlib.Omega.{arith}
+use borrow.Author.Tests.{eq-eqb, ne-eqb}
+use lib.Signed.{mag}
+use Rattle.whole.specs.Whole.{up}
+use Rattle.rules.specs.Books.{Books}
+use Rattle.rules.specs.Payouts.{payable}
+use Rattle.books.specs.Words.{Tables, tables, booksOf}
+use Rattle.books.proofs.Good.{good-read}
+use Rattle.payouts.specs.declared.pay.Payment.the-variants as pay
+use Rattle.payouts.specs.inner.Openings.{opening}
+use Rattle.payouts.specs.inner.Settled.{paySettled}
+use Rattle.payouts.proofs.Openings.{Past, past, stopped, opened}
+use Rattle.payouts.proofs.PoolFigures.{pool-figures}
+use Rattle.payouts.proofs.Payments as payments
 use Rattle.payouts.proofs.pay.settle_pay.Statement.{statement}
 use Rattle.payouts.proofs.pay.settle_pay.Tie as tie
 
--- the tables and the call, at the function's entry
 abbrev tab : tie.Start → Tables
-tab b = tables (b .args .stakes .now) (b .args .offers .now) (b .args .books .now)
+tab s = tables (s .args .stakes .now) (s .args .offers .now) (s .args .books .now)
 
-abbrev call : tie.Start → PayCall
-call b = b .args .c
+abbrev b : tie.Start → Books
+b s = booksOf (tab s)
 
-to-word-requires : tie.Need-to-word-requires
-to-word-requires c κs = search needs
+-- ---- the first tests
 
--- the amount as a word
-in-range : (c : tie.After-to-word) → SFits w64 (call (c .before .before .before .before .before) .amount)
-in-range c =
-    let small : mag (call (c .before .before .before .before .before) .amount) < 2 ^ 63 = search in
-    record { sfits = small }
+abbrev start : tie.After-open-call → tie.Start
+start c = c .before .before .before .before .before
 
-word-is-it : (c : tie.After-to-word) → toZ w64 (c .to-word .result) ≡ call (c .before .before .before .before .before) .amount
-word-is-it c = word-is _ _ (in-range c) (c .to-word .ensures)
+open-call-requires : tie.Need-open-call-requires
+open-call-requires c κs = let s = c .before .before .before .before in good-read (tab s) (s .pre .0) .sized
 
-caller-code-requires : tie.Need-caller-code-requires
-caller-code-requires c κs =
-    let b = c .before .before .before .before .before in
-    good-read (tab b) (b .pre .0) .twelve
-
--- the code that was computed is the rules'
-code-is-it : (c : tie.After-caller-code) → let b = c .before .before .before .before .before .before in c .caller-code .result ≡ codeOf (booksOf (tab b)) (b .args .signer) (call b .amount)
-code-is-it c =
-    let b = c .before .before .before .before .before .before in
-    code-is (tab b) (b .args .signer) (call b .amount) (c .before .to-word .result) (c .caller-code .result) (word-is-it (c .before)) (c .caller-code .ensures)
+opened-is : (c : tie.After-open-call) → let s = start c in c .open-call .result ≡ opening (b s) (s .args .signer) (s .args .c .amount)
+opened-is c =
+    let s = start c in
+    let small : mag (s .args .c .amount) < 2 ^ 63 = search in
+    opened (tab s) (s .args .signer) (s .args .c .amount) (record { sfits = small }) _ (c .open-call .ensures)
 
 returns : tie.Need-returns
+unfolding paySettled
 returns c =
-    let b = c .before .before .before .before .before .before .before in
-    record { plan = payments.refused-is (tab b) (b .pre .0) (b .args .signer) (call b) (b .pre .1) _ (code-is-it (c .before)) (c .if1 .taken); ready = tt }
+    let s = start (c .before .before) in
+    stopped (b s) (s .args .signer) (s .args .c .amount) _ (opened-is (c .before .before)) (c .if1 .taken) pay.Refused _
 
--- past the first tests
-zero-is : (c : tie.Else1) → let b = c .before .before .before .before .before .before .before in codeOf (booksOf (tab b)) (b .args .signer) (call b .amount) ≡ 0
-zero-is c = sym (code-is-it (c .before)) ∙ c .if1 .left
+abbrev from : tie.Else1 → tie.Start
+from c = start (c .before .before)
 
-amount-is-it : (c : tie.Else1) → Amount (call (c .before .before .before .before .before .before .before) .amount)
-amount-is-it c = let b = c .before .before .before .before .before .before .before in amount-is (booksOf (tab b)) (b .args .signer) (call b .amount) (zero-is c)
+past-is : (c : tie.Else1) → let s = from c in Past (b s) (s .args .signer) (s .args .c .amount) (c .before .before .open-call .result .amount)
+past-is c = let s = from c in past (b s) (s .args .signer) (s .args .c .amount) _ (opened-is (c .before .before)) (c .if1 .left)
 
-word-up-is : (c : tie.Else1) → c .before .before .to-word .result ≡ up (call (c .before .before .before .before .before .before .before) .amount)
-word-up-is c = word-up _ _ (in-range (c .before .before)) (c .before .before .to-word .ensures) (amount-is-it c)
+-- ---- the registry's reply
 
 returns-2 : tie.Need-returns-2
-returns-2 c =
-    let b = c .before .before .before .before .before .before .before .before .before in
-    record { plan = payments.unset-is (tab b) (b .pre .0) (b .args .signer) (call b) (b .pre .1) (zero-is (c .before .before)) (c .if2 .taken); ready = tt }
+unfolding paySettled
+returns-2 c = rw (eq-eqb _ 0 (past-is (c .before .before) .none), eq-eqb _ 0 (c .if2 .taken))
 
 returns-3 : tie.Need-returns-3
+unfolding paySettled
 returns-3 c =
-    let b = c .before .before .before .before .before .before .before .before .before .before .before in
-    record { plan = payments.standing-is (tab b) (b .pre .0) (b .args .signer) (call b) (b .pre .1) (zero-is (c .before .before .before .before)) (c .before .before .if2 .left) (c .if3 .taken); ready = tt }
+    let e = c .before .before in
+    rw (eq-eqb _ 0 (past-is (e .before .before) .none), ne-eqb _ 0 (e .if2 .left), eq-eqb _ 1 (c .if3 .taken))
 
-capped-amount-requires : tie.Need-capped-amount-requires
-capped-amount-requires c κs = c .before .before .before .before .before .before .before .before .before .before .before .pre .1 .pool
+-- ---- what may be paid
 
-balance-requires : tie.Need-balance-requires
-balance-requires c κs =
-    let b = c .before .before .before .before .before .before .before .before .before .before .before .before in
-    (good-read (tab b) (b .pre .0) .twelve, omega (arith, b .pre .1 .pool))
+abbrev passed : tie.Else3 → tie.Else1
+passed c = c .before .before .before .before
 
-lesser-requires : tie.Need-lesser-requires
-lesser-requires c κs = search needs
+payable-requires : tie.Need-payable-requires
+payable-requires c κs =
+    let s = from (passed c) in
+    pool-figures (tab s) (s .pre .0) (s .args .c .pool) _ (omega (arith, s .pre .1 .pool)) (past-is (passed c) .most)
 
--- what may be paid
-value : (c : tie.After-lesser) → let b = c .before .before .before .before .before .before .before .before .before .before .before .before .before .before in toZ w64 (c .lesser .result) ≡ payable (booksOf (tab b)) (call b)
+value : (c : tie.After-payable) → let s = from (passed (c .before)) in c .payable .result ≡ up (payable (b s) (s .args .c))
 value c =
-    let b = c .before .before .before .before .before .before .before .before .before .before .before .before .before .before in
-    c .lesser .ensures ∙ payments.payable-is (tab b) (b .pre .0) (b .args .signer) (call b) (b .pre .1) (amount-is-it (c .before .before .before .before .before .before .before)) _ _ _ (word-up-is (c .before .before .before .before .before .before .before)) (c .before .before .capped-amount .ensures) (c .before .balance .ensures)
-
-less-requires : tie.Need-less-requires
-less-requires c κs = search needs
-
-above : (c : tie.After-less) → let b = c .before .before .before .before .before .before .before .before .before .before .before .before .before .before .before in c .less .result ≡ ltZ (pos 0) (payable (booksOf (tab b)) (call b))
-above c = c .less .ensures ∙ ap (ltZ (pos 0)) (value (c .before))
+    let e = passed (c .before) in
+    let s = from e in
+    c .payable .ensures ∙ ap up (payments.payable-is (tab s) (s .pre .0) (s .args .signer) (s .args .c) (s .pre .1) _ (past-is e .word))
 
 returns-4 : tie.Need-returns-4
+unfolding paySettled
 returns-4 c =
-    let b = c .before .before .before .before .before .before .before .before .before .before .before .before .before .before .before .before in
-    record { plan = payments.nothing-is (tab b) (b .pre .0) (b .args .signer) (call b) (b .pre .1) (zero-is (c .before .before .before .before .before .before .before .before .before)) (c .before .before .before .before .before .before .before .if2 .left) (c .before .before .before .before .before .if3 .left) (above-none (payable (booksOf (tab b)) (call b)) (sym (above (c .before)) ∙ not-true _ (c .if4 .taken))); ready = tt }
+    let h = c .before .before in
+    rw (eq-eqb _ 0 (past-is (passed h) .none), ne-eqb _ 0 (h .before .before .if2 .left), ne-eqb _ 1 (h .if3 .left), eq-eqb _ 0 (sym (value (c .before)) ∙ c .if4 .taken))
 
 returns-5 : tie.Need-returns-5
+unfolding paySettled
 returns-5 c =
-    let b = c .before .before .before .before .before .before .before .before .before .before .before .before .before .before .before .before in
-    let w : c .before .before .lesser .result < 2 ^ 64 = omega arith in
-    let s = sym (above (c .before)) ∙ not-false _ (c .if4 .left) in
-    let e = above-word _ (payable (booksOf (tab b)) (call b)) w (value (c .before .before)) s in
-    let p = above-some _ (payable (booksOf (tab b)) (call b)) w (value (c .before .before)) s in
-    record { plan = payments.pays-is (tab b) (b .pre .0) (b .args .signer) (call b) (b .pre .1) (zero-is (c .before .before .before .before .before .before .before .before .before)) (c .before .before .before .before .before .before .before .if2 .left) (c .before .before .before .before .before .if3 .left) _ e p; ready = payments.can-lose (tab b) (b .pre .0) (b .args .signer) (call b) (b .pre .1) (amount-is-it (c .before .before .before .before .before .before .before .before .before)) _ e p }
+    let h = c .before .before in
+    let v = value (c .before) in
+    rw (eq-eqb _ 0 (past-is (passed h) .none), ne-eqb _ 0 (h .before .before .if2 .left), ne-eqb _ 1 (h .if3 .left), ne-eqb _ 0 (λ e. c .if4 .left (v ∙ e))) (ap pay.Pays v)
 
 pub settle-pay-spec : {M : Type 1} → statement M
-settle-pay-spec = tie.close (tie.spec to-word-requires caller-code-requires returns returns-2 returns-3 capped-amount-requires balance-requires lesser-requires less-requires returns-4 returns-5)
+settle-pay-spec = tie.close (tie.spec open-call-requires returns returns-2 returns-3 payable-requires returns-4 returns-5)

@@ -1,50 +1,39 @@
 -- `grantable` meets its contract.
-use lib.IntN.{ℤ, pos, _-ℤ_}
-use Rattle.books.specs.Words.{balanceWord}
-use mir.ValLaws.{toZ-pos}
-use borrow.Author.Needs.{needs}
-use native.Mathlib.Omega.{arith}
-use mir.Val.{toZ}
-use Rattle.whole.proofs.Linear.{whole}
-use Rattle.whole.specs.Whole.{minZ}
-use lib.ListN.{getD}
-use Prim.Native.Nat.{_+_}
 use mathlib.Core.Path.{_≡_, ap, ap₂, _∙_}
+use native.Mathlib.Omega.{arith}
+use borrow.Author.Needs.{needs}
+use lib.IntN.{ℤ, pos, _-ℤ_}
 use mir.Syntax.{w64}
+use mir.Val.{toZ}
+use mir.ValLaws.{toZ-pos}
+use Rattle.whole.specs.Whole.{up, minZ}
+use Rattle.whole.proofs.Linear.{whole}
+use Rattle.books.specs.Words.{balanceIn, unpaidIn}
 use Rattle.payouts.proofs.reserve.grantable.Statement.{statement}
 use Rattle.payouts.proofs.reserve.grantable.Tie as tie
 
-balance-requires : tie.Need-balance-requires
-balance-requires c κs = (c .before .pre .twelve, omega (arith, c .before .pre .pool-is))
-
-unpaid-requires : tie.Need-unpaid-requires
-unpaid-requires c κs = (c .before .before .pre .twelve, omega (arith, c .before .before .pre .pool-is))
+abbrev start : tie.After-unpaid → tie.Start
+start c = c .before .before .before
 
 -- the two figures
 figures : (c : tie.After-unpaid) →
-    let a = c .before .before .before .args in
-    (toZ w64 (c .before .balance .result) ≡ balanceWord (a .books .now) (a .pool)) × (toZ w64 (c .unpaid .result) ≡ pos (getD (a .books .now) (4 + a .pool) 0))
+    let a = start c .args in
+    (toZ w64 (c .before .balance .result) ≡ balanceIn (a .books .now) (a .pool)) × (toZ w64 (c .unpaid .result) ≡ pos (unpaidIn (a .books .now) (a .pool)))
 figures c =
-    let b = c .before .before .before in
     let e = c .unpaid .ensures in
-    (ap (toZ w64) (c .before .balance .ensures), toZ-pos w64 (c .unpaid .result) (omega (arith, e, b .pre .unpaid)) ∙ ap pos e)
+    (ap (toZ w64) (c .before .balance .ensures), toZ-pos w64 (c .unpaid .result) (omega (arith, e, start c .pre .figures .unpaid)) ∙ ap pos e)
 
 sub-requires : tie.Need-sub-requires
 sub-requires c κs =
-    let b = c .before .before .before in
+    let p = start c .pre .figures in
     let f = figures c in
-    omega (arith, whole, f .0, f .1, b .pre .balance .above, b .pre .balance .below, b .pre .unpaid)
-
-wanted-requires : tie.Need-wanted-requires
-wanted-requires c κs = let p = c .before .before .before .before .pre in (p .pool-is, p .amount-most, p .granted-most)
-
-lesser-requires : tie.Need-lesser-requires
-lesser-requires c κs = search needs
+    omega (arith, whole, f .0, f .1, p .balance .above, p .balance .below, p .unpaid)
 
 returns : tie.Need-returns
 returns c =
-    let f = figures (c .before .before .before) in
-    c .lesser .ensures ∙ ap₂ minZ (c .before .wanted .ensures) (c .before .before .sub .ensures ∙ ap₂ (λ (x y : ℤ). x -ℤ y) (f .0) (f .1))
+    let w = c .before .before in
+    let f = figures (w .before .before) in
+    c .positive-part .ensures ∙ ap up (c .before .lesser .ensures ∙ ap₂ minZ (w .wanted .ensures) (w .before .sub .ensures ∙ ap₂ (λ (x y : ℤ). x -ℤ y) (f .0) (f .1)))
 
 pub grantable-spec : {M : Type 1} → statement M
-grantable-spec = tie.close (tie.spec balance-requires unpaid-requires sub-requires wanted-requires lesser-requires returns)
+grantable-spec = tie.close (tie.spec (λ c κs. search needs) (λ c κs. search needs) sub-requires (λ c κs. search needs) (λ c κs. search needs) (λ c κs. search needs) returns)

@@ -1,93 +1,53 @@
 -- `reserve_payout` meets its contract: settled, then refused, answered or written.
-use mathlib.Core.Path.{sym, ap, ap₂, _∙_, subst}
-use borrow.Author.Needs.{needs}
+use mathlib.Core.Path.{_≡_, ap, ap₂, _∙_}
 use native.Mathlib.Omega.{arith}
-use Rattle.books.specs.Words.{Tables, tables, result, acted}
-use Rattle.rules.specs.Answers.{done, noTransfer}
-use lib.IntN.{pos}
-use Rattle.payouts.specs.Payouts.{ReserveSettled}
-use Rattle.rules.specs.declared.Answer.{Answer}
-use Rattle.books.proofs.Good.{good-back}
+use borrow.Author.Needs.{needs}
+use Rattle.rules.specs.Payouts.{reservePayout}
+use Rattle.books.specs.Words.{Tables, tables, booksOf, result, acted}
+use Rattle.payouts.specs.declared.reserve.Reserved.{Reserved}
+use Rattle.payouts.proofs.Openings.{refused-is, told-is}
+use Rattle.payouts.proofs.Grants as grants
 use Rattle.payouts.proofs.reserve.reserve_payout.Statement.{statement}
 use Rattle.payouts.proofs.reserve.reserve_payout.Tie as tie
 
-settle-reserve-requires : tie.Need-settle-reserve-requires
-settle-reserve-requires c κs = search needs
+abbrev tab : tie.Start → Tables
+tab s = tables (s .args .stakes .now) (s .args .offers .now) (s .args .books .now)
 
-enum-known-code : tie.Need-enum-known-code
-enum-known-code c = search needs
+abbrev start : tie.After-settle-reserve → tie.Start
+start c = c .before .before .before .before .before .before
 
-refuse-requires : tie.Need-refuse-requires
-refuse-requires c κs = search needs
-
-enum-told : tie.Need-enum-told
-enum-told c = search needs
-
-tell-requires : tie.Need-tell-requires
-tell-requires c κs = search needs
-
-enum-known-amount : tie.Need-enum-known-amount
-enum-known-amount c = search needs
+-- what was settled: its plan, and what its writing asks
+settled : (c : tie.After-settle-reserve) (x : Reserved) → c .settle-reserve .result ≡ x →
+    let s = start c in
+    (grants.reservedPlan (booksOf (tab s)) x ≡ reservePayout (booksOf (tab s)) (s .args .signer) (s .args .c)) × grants.ReserveReady (tab s) x
+settled c x e = let s = start c in grants.settled (tab s) (s .pre .0) (s .args .signer) (s .args .c) (s .pre .1) _ x (c .settle-reserve .ensures) e
 
 write-offer-requires : tie.Need-write-offer-requires
-write-offer-requires c κs =
-    let b = c .before .before .before .before .before .before .before .before .before .before .before in
-    let a = b .args in
-    let t : Tables = tables (a .stakes .now) (a .offers .now) (a .books .now) in
-    let q = subst (ReserveSettled t (a .signer) (a .c)) (c .before .before .before .amount .given .1) (c .before .before .before .before .before .settle-reserve .ensures) in
-    q .ready .0
+write-offer-requires c κs = let m = c .before .before .before in settled (m .before .before) _ (m .amount .given .1) .1 .0
+
+-- the grant, from where it was written
+abbrev granted : tie.After-write-offer → tie.After-amount
+granted c = c .before .before .before .before
 
 tell-requires-2 : tie.Need-tell-requires-2
-tell-requires-2 c κs =
-    let b = c .before .before .before .before .before .before .before .before .before .before .before .before .before .before .before .before in
-    let a = b .args in
-    let t : Tables = tables (a .stakes .now) (a .offers .now) (a .books .now) in
-    let q = subst (ReserveSettled t (a .signer) (a .c)) (c .before .before .before .before .before .before .before .before .amount .given .1) (c .before .before .before .before .before .before .before .before .before .before .settle-reserve .ensures) in
-    (q .ready .1, omega arith)
-
-same-length : tie.Need-same-length
-same-length c = search needs
-
-same-length-2 : tie.Need-same-length-2
-same-length-2 c = search needs
+tell-requires-2 c κs = let m = granted (c .before .before .before .before) in (settled (m .before .before) _ (m .amount .given .1) .1 .1, omega arith)
 
 returns : tie.Need-returns
-returns c =
-    let b = c .before .before .before .before .before .before .before .before .before .before in
-    let a = b .args in
-    let t : Tables = tables (a .stakes .now) (a .offers .now) (a .books .now) in
-    let q = subst (ReserveSettled t (a .signer) (a .c)) (c .before .before .code .given .1) (c .before .before .before .before .settle-reserve .ensures) in
-    ap (λ (x : Answer). result x t) (c .refuse .ensures) ∙ ap (acted t) (q .plan)
-
-same-length-3 : tie.Need-same-length-3
-same-length-3 c = search needs
-
-same-length-4 : tie.Need-same-length-4
-same-length-4 c = search needs
+returns c = let m = c .before .before in refused-is (tab (start (m .before .before))) _ _ _ (c .refuse .ensures) (settled (m .before .before) _ (m .code .given .1) .0)
 
 returns-2 : tie.Need-returns-2
 returns-2 c =
-    let b = c .before .before .before .before .before .before .before .before .before in
-    let a = b .args in
-    let t : Tables = tables (a .stakes .now) (a .offers .now) (a .books .now) in
-    let q = subst (ReserveSettled t (a .signer) (a .c)) (c .before .enum-told .given .1) (c .before .before .before .settle-reserve .ensures) in
-    ap (λ (x : Answer). result x t) (c .tell .ensures)
-    ∙ ap (result (done (pos 0) (pos 0) noTransfer noTransfer)) (sym (good-back t (b .pre .0) (λ j. c .before .before .before .before .before .before .before .before .shared-slice-known .given j .fits) (λ j. c .before .before .before .before .before .before .slice-known2 .given j .fits)))
-    ∙ ap (acted t) (q .plan)
-
-same-length-5 : tie.Need-same-length-5
-same-length-5 c = search needs
-
-same-length-6 : tie.Need-same-length-6
-same-length-6 c = search needs
+    let m = c .before in
+    let k = m .before .before in
+    let l = k .before .before .before in
+    told-is (tab (start k)) _ _ (start k .pre .0) (λ j. l .before .before .shared-slice-known .given j .fits) (λ j. l .slice-known2 .given j .fits) _ _ (c .tell .ensures) (settled k _ (m .enum-told .given .1) .0)
 
 returns-3 : tie.Need-returns-3
 returns-3 c =
-    let b = c .before .before .before .before .before .before .before .before .before .before .before .before .before .before .before .before .before in
-    let a = b .args in
-    let t : Tables = tables (a .stakes .now) (a .offers .now) (a .books .now) in
-    let q = subst (ReserveSettled t (a .signer) (a .c)) (c .before .before .before .before .before .before .before .before .before .amount .given .1) (c .before .before .before .before .before .before .before .before .before .before .before .settle-reserve .ensures) in
-    ap₂ result (c .tell2 .ensures) (c .before .before .before .before .before .write-offer .ensures) ∙ ap (acted t) (q .plan)
+    let w = c .before .before .before .before .before in
+    let m = granted w in
+    let k = m .before .before in
+    ap₂ result (c .tell2 .ensures) (w .write-offer .ensures) ∙ ap (acted (tab (start k))) (settled k _ (m .amount .given .1) .0)
 
 pub reserve-payout-spec : {M : Type 1} → statement M
-reserve-payout-spec = tie.close (tie.spec settle-reserve-requires enum-known-code refuse-requires enum-told tell-requires enum-known-amount write-offer-requires tell-requires-2 same-length same-length-2 returns same-length-3 same-length-4 returns-2 same-length-5 same-length-6 returns-3)
+reserve-payout-spec = tie.close (tie.spec (λ c κs. search needs) (λ c. search needs) (λ c κs. search needs) (λ c. search needs) (λ c κs. search needs) (λ c. search needs) write-offer-requires tell-requires-2 (λ c. search needs) (λ c. search needs) returns (λ c. search needs) (λ c. search needs) returns-2 (λ c. search needs) (λ c. search needs) returns-3)

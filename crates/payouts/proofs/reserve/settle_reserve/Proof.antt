@@ -1,188 +1,176 @@
--- `settle_reserve` meets its contract: each answer is its rung of the plan (`Grants`).
-use Rattle.rules.specs.Books.{OfferRow, offerAt}
-use borrow.Author.Needs.{needs}
-use Rattle.books.proofs.Writing.{offer-is, unpaid-is}
+-- `settle_reserve` meets its contract: each answer is its rung of `reserveSettled`.
+use mathlib.Core.Path.{_≡_, sym, ap, _∙_}
+use mathlib.Core.Bool.{_&&_}
+use Prim.Native.Nat.{ℕ, _+_, _^_, _≤_, _<_}
 use native.Mathlib.Omega.{arith}
-use Rattle.books.specs.Held.{offerOf, HeldOffers}
-use Rattle.books.proofs.Good.{good-read, offers-held, good-unpaid}
-use mir.Syntax.{w64}
-use lib.Signed.{mag, ltZ}
-use Rattle.rules.specs.Limits.{limit}
-use Rattle.payouts.proofs.Grants as grants
+use borrow.Author.Needs.{needs}
+use borrow.Author.Tests.{eq-eqb, ne-eqb, lt-ltb, le-ltb}
+use lib.Dec.{eqb, leb}
+use lib.Signed.{mag}
 use Rattle.whole.specs.Whole.{up}
-use Rattle.books.specs.Words.{Tables, tables, booksOf}
+use Rattle.rules.specs.Limits.{limit}
+use Rattle.rules.specs.Books.{Books, OfferRow, offerAt, unpaidOf}
 use Rattle.rules.specs.Payouts.{grantable, noOfferRoom}
-use borrow.Author.Tests.{not-true, not-false}
-use mathlib.Core.Bool.{true}
-use mathlib.Core.Path.{_≡_, sym, ap, _∙_, subst⁻¹}
-use Prim.Native.Nat.{_+_, _^_, _≤_, _<_}
-use Rattle.rules.specs.declared.ReserveCall.{ReserveCall}
-use lib.IntN.{pos}
-use mir.Val.{SFits, toZ}
-use Rattle.payouts.proofs.PayoutCodes.{codeOf, code-is, Amount, amount-is, word-is, word-up, above-word, above-some, above-none}
+use Rattle.rules.proofs.Writes.{OldOffer}
+use Rattle.books.specs.Layout.{offerWidth}
+use Rattle.books.specs.Tables.{roomOf}
+use Rattle.books.specs.Words.{Tables, tables, booksOf}
+use Rattle.books.proofs.Good.{good-read, good-unpaid}
+use Rattle.books.proofs.Writing.{unpaid-is}
+use Rattle.payouts.specs.declared.offer.Found.{Found}
+use Rattle.payouts.specs.declared.reserve.Reserved.the-variants as grant
+use Rattle.payouts.specs.inner.Openings.{opening}
+use Rattle.payouts.specs.inner.Amounts.{grantableOf}
+use Rattle.payouts.specs.inner.Settled.{reserveSettled}
+use Rattle.payouts.proofs.Openings.{Past, past, stopped, opened}
+use Rattle.payouts.proofs.OfferWrites.{found, found-is, searchable}
+use Rattle.payouts.proofs.Grants as grants
 use Rattle.payouts.proofs.reserve.settle_reserve.Statement.{statement}
 use Rattle.payouts.proofs.reserve.settle_reserve.Tie as tie
 
--- the tables and the call, at the function's entry
 abbrev tab : tie.Start → Tables
-tab b = tables (b .args .stakes .now) (b .args .offers .now) (b .args .books .now)
+tab s = tables (s .args .stakes .now) (s .args .offers .now) (s .args .books .now)
 
-abbrev call : tie.Start → ReserveCall
-call b = b .args .c
+abbrev b : tie.Start → Books
+b s = booksOf (tab s)
 
-to-word-requires : tie.Need-to-word-requires
-to-word-requires c κs = search needs
+-- the offer's row, and what may be granted
+abbrev old : tie.Start → OfferRow
+old s = offerAt (b s) (s .args .c .pool) (s .args .c .offer)
 
--- the amount as a word
-in-range : (c : tie.After-to-word) → SFits w64 (call (c .before .before .before .before .before) .amount)
-in-range c =
-    let small : mag (call (c .before .before .before .before .before) .amount) < 2 ^ 63 = search in
-    record { sfits = small }
+abbrev n : tie.Start → ℕ
+n s = up (grantable (b s) (s .args .c))
 
-word-is-it : (c : tie.After-to-word) → toZ w64 (c .to-word .result) ≡ call (c .before .before .before .before .before) .amount
-word-is-it c = word-is _ _ (in-range c) (c .to-word .ensures)
+old-is : (s : tie.Start) → OldOffer (s .args .c .pool) (s .args .c .offer) (old s)
+old-is s = grants.old-is (tab s) (s .pre .0) (s .args .signer) (s .args .c) (s .pre .1)
 
-caller-code-requires : tie.Need-caller-code-requires
-caller-code-requires c κs =
-    let b = c .before .before .before .before .before in
-    good-read (tab b) (b .pre .0) .twelve
+-- ---- the first tests
 
--- the code that was computed is the rules'
-code-is-it : (c : tie.After-caller-code) → let b = c .before .before .before .before .before .before in c .caller-code .result ≡ codeOf (booksOf (tab b)) (b .args .signer) (call b .amount)
-code-is-it c =
-    let b = c .before .before .before .before .before .before in
-    code-is (tab b) (b .args .signer) (call b .amount) (c .before .to-word .result) (c .caller-code .result) (word-is-it (c .before)) (c .caller-code .ensures)
+abbrev start : tie.After-open-call → tie.Start
+start c = c .before .before .before .before .before
+
+open-call-requires : tie.Need-open-call-requires
+open-call-requires c κs = let s = c .before .before .before .before in good-read (tab s) (s .pre .0) .sized
+
+opened-is : (c : tie.After-open-call) → let s = start c in c .open-call .result ≡ opening (b s) (s .args .signer) (s .args .c .amount)
+opened-is c =
+    let s = start c in
+    let small : mag (s .args .c .amount) < 2 ^ 63 = search in
+    opened (tab s) (s .args .signer) (s .args .c .amount) (record { sfits = small }) _ (c .open-call .ensures)
 
 returns : tie.Need-returns
+unfolding reserveSettled
 returns c =
-    let b = c .before .before .before .before .before .before .before in
-    record { plan = grants.refused-is (tab b) (b .pre .0) (b .args .signer) (call b) (b .pre .1) _ (code-is-it (c .before)) (c .if1 .taken); ready = tt }
+    let s = start (c .before .before) in
+    stopped (b s) (s .args .signer) (s .args .c .amount) _ (opened-is (c .before .before)) (c .if1 .taken) grant.Refused _
 
--- past the first tests
-zero-is : (c : tie.Else1) → let b = c .before .before .before .before .before .before .before in codeOf (booksOf (tab b)) (b .args .signer) (call b .amount) ≡ 0
-zero-is c = sym (code-is-it (c .before)) ∙ c .if1 .left
+abbrev from : tie.Else1 → tie.Start
+from c = start (c .before .before)
 
-amount-is-it : (c : tie.Else1) → Amount (call (c .before .before .before .before .before .before .before) .amount)
-amount-is-it c = let b = c .before .before .before .before .before .before .before in amount-is (booksOf (tab b)) (b .args .signer) (call b .amount) (zero-is c)
+past-is : (c : tie.Else1) → let s = from c in Past (b s) (s .args .signer) (s .args .c .amount) (c .before .before .open-call .result .amount)
+past-is c = let s = from c in past (b s) (s .args .signer) (s .args .c .amount) _ (opened-is (c .before .before)) (c .if1 .left)
 
-word-up-is : (c : tie.Else1) → c .before .before .to-word .result ≡ up (call (c .before .before .before .before .before .before .before) .amount)
-word-up-is c = word-up _ _ (in-range (c .before .before)) (c .before .before .to-word .ensures) (amount-is-it c)
+-- ---- the offer's row
 
-used-offers-requires : tie.Need-used-offers-requires
-used-offers-requires c κs =
-    let b = c .before .before .before .before .before .before .before in
-    good-read (tab b) (b .pre .0) .offers-tidy
+find-offer-requires : tie.Need-find-offer-requires
+find-offer-requires c κs = let s = from c in searchable (tab s) (s .pre .0)
 
-read-offer-requires : tie.Need-read-offer-requires
-read-offer-requires c κs =
-    let b = c .before .before .before .before .before .before .before .before in
-    subst⁻¹ (HeldOffers (b .args .offers .now)) (c .used-offers .ensures) (offers-held (tab b) (b .pre .0))
+row-is : (c : tie.After-find-offer) → let s = from (c .before) in c .find-offer .result ≡ found (tab s) (s .args .c .pool) (s .args .c .offer)
+row-is c = let s = from (c .before) in c .find-offer .ensures ∙ found-is (tab s) (s .args .c .pool) (s .args .c .offer)
 
--- the row that was read is the offer's
-row-is : (c : tie.After-read-offer) → let b = c .before .before .before .before .before .before .before .before .before in offerOf (c .read-offer .result) ≡ offerAt (booksOf (tab b)) (call b .pool) (call b .offer .0)
-row-is c = let b = c .before .before .before .before .before .before .before .before .before in c .read-offer .ensures ∙ offer-is (tab b) (call b .pool) (call b .offer .0)
+reserved-is : (c : tie.After-find-offer) → c .find-offer .result .row .reserved ≡ old (from (c .before)) .reserved
+reserved-is c = ap (λ (f : Found). f .row .reserved) (row-is c)
 
-reserved-is : (c : tie.After-read-offer) → let b = c .before .before .before .before .before .before .before .before .before in c .read-offer .result .reserved ≡ offerAt (booksOf (tab b)) (call b .pool) (call b .offer .0) .reserved
-reserved-is c = ap (λ (r : OfferRow). r .reserved) (row-is c)
-
-paid-is : (c : tie.After-read-offer) → let b = c .before .before .before .before .before .before .before .before .before in c .read-offer .result .paid ≡ offerAt (booksOf (tab b)) (call b .pool) (call b .offer .0) .paid
-paid-is c = ap (λ (r : OfferRow). r .paid) (row-is c)
+-- ---- what may be granted
 
 grantable-requires : tie.Need-grantable-requires
 grantable-requires c κs =
-    let b = c .before .before .before .before .before .before .before .before .before in
-    grants.can-grant (tab b) (b .pre .0) (b .args .signer) (call b) (b .pre .1) (amount-is-it (c .before .before)) _ _ (word-up-is (c .before .before)) (reserved-is c)
+    let s = from (c .before) in
+    rw (reserved-is c) (grants.can-grant (tab s) (s .pre .0) (s .args .signer) (s .args .c) (s .pre .1) _ (past-is (c .before)))
 
--- what may be granted
-value : (c : tie.After-grantable) → let b = c .before .before .before .before .before .before .before .before .before .before in toZ w64 (c .grantable .result) ≡ grantable (booksOf (tab b)) (call b)
+value : (c : tie.After-grantable) → c .grantable .result ≡ n (from (c .before .before))
 value c =
-    let b = c .before .before .before .before .before .before .before .before .before .before in
-    c .grantable .ensures ∙ grants.grantable-is (tab b) (b .pre .0) (b .args .signer) (call b) (b .pre .1) (amount-is-it (c .before .before .before)) _ _ (word-up-is (c .before .before .before)) (reserved-is (c .before))
+    let k = c .before in
+    let s = from (k .before) in
+    c .grantable .ensures
+    ∙ ap up (ap (grantableOf (s .args .books .now) (s .args .c .pool) (k .before .before .before .open-call .result .amount)) (reserved-is k) ∙ grants.grantable-is (tab s) (s .pre .0) (s .args .signer) (s .args .c) (s .pre .1) _ (past-is (k .before)))
 
-less-requires : tie.Need-less-requires
-less-requires c κs = search needs
-
-above : (c : tie.After-less) → let b = c .before .before .before .before .before .before .before .before .before .before .before in c .less .result ≡ ltZ (pos 0) (grantable (booksOf (tab b)) (call b))
-above c = c .less .ensures ∙ ap (ltZ (pos 0)) (value (c .before))
+abbrev passed : tie.After-grantable → tie.Else1
+passed c = c .before .before
 
 returns-2 : tie.Need-returns-2
-returns-2 c =
-    let b = c .before .before .before .before .before .before .before .before .before .before .before .before in
-    record { plan = grants.nothing-is (tab b) (b .pre .0) (b .args .signer) (call b) (b .pre .1) (zero-is (c .before .before .before .before .before)) (above-none (grantable (booksOf (tab b)) (call b)) (sym (above (c .before)) ∙ not-true _ (c .if2 .taken))); ready = tt }
+unfolding reserveSettled
+returns-2 c = rw (eq-eqb _ 0 (past-is (passed (c .before)) .none), eq-eqb _ 0 (sym (value (c .before)) ∙ c .if2 .taken))
 
--- and that it is above 0
-some-is : (c : tie.Else2) → let b = c .before .before .before .before .before .before .before .before .before .before .before .before in ltZ (pos 0) (grantable (booksOf (tab b)) (call b)) ≡ true
-some-is c = sym (above (c .before)) ∙ not-false _ (c .if2 .left)
+abbrev here : tie.Else2 → tie.Start
+here c = from (passed (c .before))
 
-grant-is : (c : tie.Else2) → let b = c .before .before .before .before .before .before .before .before .before .before .before .before in c .before .before .grantable .result ≡ up (grantable (booksOf (tab b)) (call b))
-grant-is c =
-    let w : c .before .before .grantable .result < 2 ^ 64 = omega arith in
-    above-word _ _ w (value (c .before .before)) (some-is c)
-
-positive : (c : tie.Else2) → let b = c .before .before .before .before .before .before .before .before .before .before .before .before in 0 < up (grantable (booksOf (tab b)) (call b))
-positive c =
-    let w : c .before .before .grantable .result < 2 ^ 64 = omega arith in
-    above-some _ _ w (value (c .before .before)) (some-is c)
+-- ---- the limit
 
 sub-if3 : tie.Need-sub-if3
-sub-if3 c =
-    let b = c .before .before .before .before .before .before .before .before .before .before .before .before .before in
-    omega (arith, reserved-is (c .before .before .before .before), grants.old-is (tab b) (b .pre .0) (b .args .signer) (call b) (b .pre .1) .most)
+sub-if3 c = let k = c .before .before in omega (arith, reserved-is (k .before), old-is (from (passed k)) .most)
 
 returns-3 : tie.Need-returns-3
+unfolding reserveSettled
 returns-3 c =
-    let b = c .before .before .before .before .before .before .before .before .before .before .before .before .before .before in
-    let l = c .if3 .taken in
-    record { plan = grants.over-is (tab b) (b .pre .0) (b .args .signer) (call b) (b .pre .1) (zero-is (c .before .before .before .before .before .before .before)) (positive (c .before .before)) (omega (arith, l, grant-is (c .before .before), reserved-is (c .before .before .before .before .before), grants.old-is (tab b) (b .pre .0) (b .args .signer) (call b) (b .pre .1) .most)); ready = tt }
+    let e = c .before .before in
+    let s = here e in
+    let v = value (e .before) in
+    let l : limit < old s .reserved + n s = omega (arith, c .if3 .taken, v, reserved-is (e .before .before), old-is s .most) in
+    rw (eq-eqb _ 0 (past-is (passed (e .before)) .none), ne-eqb _ 0 (λ z. e .if2 .left (v ∙ z)), lt-ltb limit (old s .reserved + n s) l)
 
-fits : (c : tie.Else3) → let b = c .before .before .before .before .before .before .before .before .before .before .before .before .before .before in offerAt (booksOf (tab b)) (call b .pool) (call b .offer .0) .reserved + up (grantable (booksOf (tab b)) (call b)) ≤ limit
+fits : (c : tie.Else3) → let s = here (c .before .before) in old s .reserved + n s ≤ limit
 fits c =
-    let b = c .before .before .before .before .before .before .before .before .before .before .before .before .before .before in
-    let l = c .if3 .left in
-    omega (arith, l, grant-is (c .before .before), reserved-is (c .before .before .before .before .before), grants.old-is (tab b) (b .pre .0) (b .args .signer) (call b) (b .pre .1) .most)
+    let e = c .before .before in
+    omega (arith, c .if3 .left, value (e .before), reserved-is (e .before .before), old-is (here e) .most)
 
-no-row-requires : tie.Need-no-row-requires
-no-row-requires c κs = search needs
+-- ---- the room
 
-room-is : (c : tie.After-no-row) → let b = c .before .before .before .before .before .before .before .before .before .before .before .before .before .before .before in c .no-row .result ≡ noOfferRoom (booksOf (tab b)) (call b)
+room-is : (c : tie.After-no-row) → let s = here (c .before .before .before) in c .no-row .result ≡ noOfferRoom (b s) (s .args .c)
 room-is c =
-    let b = c .before .before .before .before .before .before .before .before .before .before .before .before .before .before .before in
-    grants.room-is (tab b) (b .pre .0) (b .args .signer) (call b) (b .pre .1) _ _ _ (reserved-is (c .before .before .before .before .before .before)) (c .before .before .before .before .before .before .before .used-offers .ensures) (c .no-row .ensures)
+    let e = c .before .before .before in
+    let s = here e in
+    c .no-row .ensures ∙ ap (λ (f : Found). eqb (f .row .reserved) 0 && leb (roomOf offerWidth (s .args .offers .now)) (f .used)) (row-is (e .before .before))
+    ∙ grants.room-is (tab s) (s .pre .0) (s .args .signer) (s .args .c) (s .pre .1)
 
 returns-4 : tie.Need-returns-4
+unfolding reserveSettled
 returns-4 c =
-    let b = c .before .before .before .before .before .before .before .before .before .before .before .before .before .before .before .before in
-    record { plan = grants.full-is (tab b) (b .pre .0) (b .args .signer) (call b) (b .pre .1) (zero-is (c .before .before .before .before .before .before .before .before .before)) (positive (c .before .before .before .before)) (fits (c .before .before)) (sym (room-is (c .before)) ∙ c .if4 .taken); ready = tt }
+    let h = c .before .before in
+    let e = h .before .before in
+    let s = here e in
+    rw (eq-eqb _ 0 (past-is (passed (e .before)) .none), ne-eqb _ 0 (λ z. e .if2 .left (value (e .before) ∙ z)), le-ltb limit (old s .reserved + n s) (fits h), sym (room-is (c .before)) ∙ c .if4 .taken)
 
-add-t14 : tie.Need-add-t14
-add-t14 c =
-    let b = c .before .before .before .before .before .before .before .before .before .before .before .before .before .before .before .before .before in
-    record { fits = omega (arith, fits (c .before .before .before), grant-is (c .before .before .before .before .before), reserved-is (c .before .before .before .before .before .before .before .before)) }
+-- ---- what is granted
+
+abbrev roomy : tie.After-struct-known3 → tie.Else3
+roomy c = c .before .before .before
+
+add-t11 : tie.Need-add-t11
+add-t11 c = let h = roomy c in let e = h .before .before in record { fits = omega (arith, fits h, value (e .before), reserved-is (e .before .before)) }
 
 unpaid-requires : tie.Need-unpaid-requires
-unpaid-requires c κs =
-    let b = c .before .before .before .before .before .before .before .before .before .before .before .before .before .before .before .before .before in
-    (good-read (tab b) (b .pre .0) .twelve, omega (arith, b .pre .1 .pool))
+unpaid-requires c κs = let s = here (roomy c .before .before) in (good-read (tab s) (s .pre .0) .sized, omega (arith, s .pre .1 .pool))
 
-add-t16 : tie.Need-add-t16
-add-t16 c =
-    let b = c .before .before .before .before .before .before .before .before .before .before .before .before .before .before .before .before .before .before in
-    let p : call b .pool < 4 = omega (arith, b .pre .1 .pool) in
-    record { fits = omega (arith, fits (c .before .before .before .before), grant-is (c .before .before .before .before .before .before), c .unpaid .ensures, unpaid-is (tab b) (call b .pool) p, good-unpaid (tab b) (b .pre .0) (call b .pool) p) }
+sum-is : (c : tie.After-unpaid) → let s = here (roomy (c .before) .before .before) in c .unpaid .result ≡ unpaidOf (b s) (s .args .c .pool)
+sum-is c = let s = here (roomy (c .before) .before .before) in c .unpaid .ensures ∙ unpaid-is (tab s) (s .args .c .pool) (omega (arith, s .pre .1 .pool))
+
+add-t13 : tie.Need-add-t13
+add-t13 c =
+    let h = roomy (c .before) in
+    let s = here (h .before .before) in
+    record { fits = omega (arith, fits h, value (h .before .before .before), sum-is c, good-unpaid (tab s) (s .pre .0) (s .args .c .pool) (omega (arith, s .pre .1 .pool))) }
 
 returns-5 : tie.Need-returns-5
+unfolding reserveSettled
 returns-5 c =
-    let b = c .before .before .before .before .before .before .before .before .before .before .before .before .before .before .before .before .before .before in
-    let p : call b .pool < 4 = omega (arith, b .pre .1 .pool) in
-    let e = sym (room-is (c .before .before .before)) ∙ c .before .before .if4 .left in
-    let m = c .unpaid .ensures ∙ unpaid-is (tab b) (call b .pool) p in
-    let r = reserved-is (c .before .before .before .before .before .before .before .before .before) in
-    let q = paid-is (c .before .before .before .before .before .before .before .before .before) in
-    let w = grant-is (c .before .before .before .before .before .before) in
-    record {
-      plan = grants.granted-plan (tab b) (b .pre .0) (b .args .signer) (call b) (b .pre .1) (zero-is (c .before .before .before .before .before .before .before .before .before .before .before)) (positive (c .before .before .before .before .before .before)) (fits (c .before .before .before .before)) _ _ _ _ w r q m e;
-      ready = (grants.granted-ready (tab b) (b .pre .0) (b .args .signer) (call b) (b .pre .1) (zero-is (c .before .before .before .before .before .before .before .before .before .before .before)) (positive (c .before .before .before .before .before .before)) (fits (c .before .before .before .before)) _ _ _ _ w r q m e, omega (arith, fits (c .before .before .before .before), w));
-    }
+    let h = roomy (c .before) in
+    let e = h .before .before in
+    let s = here e in
+    let v = value (e .before) in
+    let full = c .before .before in
+    rw (eq-eqb _ 0 (past-is (passed (e .before)) .none), ne-eqb _ 0 (λ z. e .if2 .left (v ∙ z)), le-ltb limit (old s .reserved + n s) (fits h), sym (room-is (full .before)) ∙ full .if4 .left)
+    (grants.granted-is (tab s) (s .pre .0) (s .args .signer) (s .args .c) (s .pre .1) _ _ _ (row-is (e .before .before)) v (sum-is c))
 
 pub settle-reserve-spec : {M : Type 1} → statement M
-settle-reserve-spec = tie.close (tie.spec to-word-requires caller-code-requires returns used-offers-requires read-offer-requires grantable-requires less-requires returns-2 sub-if3 returns-3 no-row-requires returns-4 add-t14 unpaid-requires add-t16 returns-5)
+settle-reserve-spec = tie.close (tie.spec open-call-requires returns find-offer-requires grantable-requires returns-2 sub-if3 returns-3 (λ c κs. search needs) returns-4 add-t11 unpaid-requires add-t13 returns-5)

@@ -27,35 +27,11 @@ kind c k e =
     let t = given (st (c .before)) in
     ap (queryWords t) (kind-answer (booksOf t) (a .pool) (a .number) (a .time) (a .kind) k e (zero c))
 
-unused-zero-requires : tie.Need-unused-zero-requires
-unused-zero-requires c κs = search needs
-
-refuse-requires : tie.Need-refuse-requires
-refuse-requires c κs = search needs
-
 returns : tie.Need-returns
 returns c =
     let d = c .before .before in
     let s = st d in
     c .refuse .ensures ∙ unused-malformed (booksOf (given s)) (s .args .pool) (s .args .number) (s .args .time) (given s) (s .args .kind) (sym (d .unused-zero .ensures) ∙ not-true _ (c .before .if1 .taken))
-
-get-stake-requires : tie.Need-get-stake-requires
-get-stake-requires c κs = search needs
-
-accrued-yield-requires : tie.Need-accrued-yield-requires
-accrued-yield-requires c κs = search needs
-
-get-pool-requires : tie.Need-get-pool-requires
-get-pool-requires c κs = search needs
-
-get-stakers-count-requires : tie.Need-get-stakers-count-requires
-get-stakers-count-requires c κs = search needs
-
-get-offer-requires : tie.Need-get-offer-requires
-get-offer-requires c κs = search needs
-
-refuse-requires-2 : tie.Need-refuse-requires-2
-refuse-requires-2 c κs = search needs
 
 returns-2 : tie.Need-returns-2
 unfolding answerOf
@@ -87,15 +63,15 @@ pub ask-spec : {M : Type 1} → statement M
 ask-spec =
     tie.close
     (tie.spec
-    unused-zero-requires
-    refuse-requires
+    (λ c κs. search needs)
+    (λ c κs. search needs)
     returns
-    get-stake-requires
-    accrued-yield-requires
-    get-pool-requires
-    get-stakers-count-requires
-    get-offer-requires
-    refuse-requires-2
+    (λ c κs. search needs)
+    (λ c κs. search needs)
+    (λ c κs. search needs)
+    (λ c κs. search needs)
+    (λ c κs. search needs)
+    (λ c κs. search needs)
     returns-2
     returns-3
     returns-4

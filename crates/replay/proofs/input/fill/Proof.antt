@@ -5,7 +5,7 @@ use Prim.Native.Nat.{ℕ, _-_, _≤_}
 use native.Mathlib.Omega.{arith}
 use borrow.Rule.Slice.PartMut.{midOf, putMid, same-len-mid}
 use lib.ListN.{length, take}
-use Rattle.replay.specs.Buffers.{Within}
+use Rattle.replay.specs.Buffers.{AtMost}
 use Rattle.replay.proofs.Reading.{first-kept, room-behind}
 use borrow.Author.Needs.{needs}
 use Rattle.replay.proofs.input.fill.Statement.{statement}
@@ -41,32 +41,11 @@ got-within : (c : tie.After-more Inv-loop μ-loop) → let l = c .before .before
 got-within c =
     let l = c .before .before .before .before .before .before .before in
     let within : c .more .given .0 .0 ≤ length (midOf (l .loop .there) (length (l .loop .bytes) - l .loop .there) (l .loop .bytes)) =
-    subst (Within (length (midOf (l .loop .there) (length (l .loop .bytes) - l .loop .there) (l .loop .bytes)))) (c .more .given .1) (c .before .before .before .before .read-some .ensures) in
+    subst (AtMost (length (midOf (l .loop .there) (length (l .loop .bytes) - l .loop .there) (l .loop .bytes)))) (c .more .given .1) (c .before .before .before .before .read-some .ensures) in
     omega (arith, room-behind (l .loop .bytes) (l .loop .there))
 
 loop-holds : tie.Need-loop-holds Inv-loop μ-loop
 loop-holds c = (omega arith, omega arith, refl, refl)
-
-sub-read-some : tie.Need-sub-read-some Inv-loop μ-loop
-sub-read-some c = search needs
-
-part-read-some-start : tie.Need-part-read-some-start Inv-loop μ-loop
-part-read-some-start c = search needs
-
-part-read-some-end : tie.Need-part-read-some-end Inv-loop μ-loop
-part-read-some-end c = search needs
-
-read-some-requires : tie.Need-read-some-requires Inv-loop μ-loop
-read-some-requires c κs = search needs
-
-enum-known-more : tie.Need-enum-known-more Inv-loop μ-loop
-enum-known-more c = search needs
-
-enum-told : tie.Need-enum-told Inv-loop μ-loop
-enum-told c = search needs
-
-same-length : tie.Need-same-length Inv-loop μ-loop
-same-length c = search needs
 
 returns : tie.Need-returns Inv-loop μ-loop
 returns c = first (c .before .before .before .before)
@@ -74,23 +53,14 @@ returns c = first (c .before .before .before .before)
 add-there : tie.Need-add-there Inv-loop μ-loop
 add-there c = record { fits = omega (arith, got-within (c .before .before)) }
 
-loop-less : tie.Need-loop-less Inv-loop μ-loop
-loop-less c = search needs
-
 loop-again : tie.Need-loop-again Inv-loop μ-loop
 loop-again c =
     let l = c .before .before .before .before .before .before .before .before .before in
     let r = c .before .before .before .before .before .before in
     (omega arith, omega (arith, got-within (c .before .before), same r), same r ∙ l .loop .inv .2, first r)
 
-same-length-2 : tie.Need-same-length-2 Inv-loop μ-loop
-same-length-2 c = search needs
-
 returns-2 : tie.Need-returns-2 Inv-loop μ-loop
 returns-2 c = let l = c .before in record { kept = l .loop .inv .3; least = l .loop .inv .0; most = l .loop .inv .1 }
-
-same-length-3 : tie.Need-same-length-3 Inv-loop μ-loop
-same-length-3 c = search needs
 
 returns-3 : tie.Need-returns-3 Inv-loop μ-loop
 returns-3 c =
@@ -105,18 +75,18 @@ fill-spec =
     Inv-loop
     μ-loop
     loop-holds
-    sub-read-some
-    part-read-some-start
-    part-read-some-end
-    read-some-requires
-    enum-known-more
-    enum-told
-    same-length
+    (λ c. search needs)
+    (λ c. search needs)
+    (λ c. search needs)
+    (λ c κs. search needs)
+    (λ c. search needs)
+    (λ c. search needs)
+    (λ c. search needs)
     returns
     add-there
-    loop-less
+    (λ c. search needs)
     loop-again
-    same-length-2
+    (λ c. search needs)
     returns-2
-    same-length-3
+    (λ c. search needs)
     returns-3)

@@ -24,30 +24,6 @@ loop-holds c =
     let a = c .args in
     (search needs, refl, paste-zero (a .s .now) (a .to + a .n) (drop (a .from + a .n) (a .s .now)) ∙ ap (paste (a .s .now) (a .to + a .n) (drop (a .from + a .n) (a .s .now))) (zero-gap (a .n)))
 
-sub-j : tie.Need-sub-j Inv-loop μ-loop
-sub-j c = search needs
-
-add-s : tie.Need-add-s Inv-loop μ-loop
-add-s c = search needs
-
-mul-s : tie.Need-mul-s Inv-loop μ-loop
-mul-s c = search needs
-
-slice-read-s : tie.Need-slice-read-s Inv-loop μ-loop
-slice-read-s c = search needs
-
-add-s-2 : tie.Need-add-s-2 Inv-loop μ-loop
-add-s-2 c = search needs
-
-mul-s-2 : tie.Need-mul-s-2 Inv-loop μ-loop
-mul-s-2 c = search needs
-
-slice-write-s : tie.Need-slice-write-s Inv-loop μ-loop
-slice-write-s c = search needs
-
-loop-less : tie.Need-loop-less Inv-loop μ-loop
-loop-less c = search needs
-
 loop-again : tie.Need-loop-again Inv-loop μ-loop
 loop-again c =
     let a = c .before .before .before .args in
@@ -58,9 +34,6 @@ loop-again c =
     let r : suc (a .n - l .j) ≡ a .n - i = omega arith in
     let e : l .s ≡ paste (a .s .now) (suc (a .to + i)) (drop (suc (a .from + i)) (a .s .now)) (a .n - l .j) = cc (l .inv .2, p, q) in
     (omega arith, simp length-set (l .inv .1), up-word (a .s .now) (l .s) (a .to + i) (a .from + i) (a .n - l .j) (omega arith) (omega arith) e ∙ ap (paste (a .s .now) (a .to + i) (drop (a .from + i) (a .s .now))) r)
-
-same-length : tie.Need-same-length Inv-loop μ-loop
-same-length c = search needs
 
 returns : tie.Need-returns Inv-loop μ-loop
 returns c =
@@ -75,17 +48,5 @@ pub copy-up-spec : {M : Type 1} → statement M
 copy-up-spec =
     tie.close
     (tie.spec
-    Inv-loop
-    μ-loop
-    loop-holds
-    sub-j
-    add-s
-    mul-s
-    slice-read-s
-    add-s-2
-    mul-s-2
-    slice-write-s
-    loop-less
-    loop-again
-    same-length
-    returns)
+    Inv-loop μ-loop loop-holds (λ c. search needs) (λ c. search needs) (λ c. search needs) (λ c. search needs) (λ c. search needs)
+    (λ c. search needs) (λ c. search needs) (λ c. search needs) loop-again (λ c. search needs) returns)

@@ -14,9 +14,6 @@ mul-here c = record { fits = omega (arith, mul-le-mul-right (c .before .before .
 add-copy-up : tie.Need-add-copy-up
 add-copy-up c = record { fits = omega (arith, mul-le-mul-right (c .before .before .before .args .width) (c .before .before .before .pre .0 .0)) }
 
-mul-copy-up : tie.Need-mul-copy-up
-mul-copy-up c = search needs
-
 sub-copy-up : tie.Need-sub-copy-up
 sub-copy-up c = mul-le-mul-right (c .before .before .before .args .width) (c .before .before .before .pre .0 .0)
 
@@ -30,25 +27,13 @@ write-row-requires c κs =
     let st = c .before .before .before .before .before .before .before in
     (st .pre .0 .1, omega (arith, mul-le-mul-right (st .args .width) (st .pre .0 .0), st .pre .1, c .before .before .before .copy-up .kept))
 
-same-length : tie.Need-same-length
-same-length c = search needs
-
 returns : tie.Need-returns
 returns c =
     let st = c .before .before .before .before .before .before .before .before .before .before in
     let a = st .args in
     c .before .before .write-row .ensures
-    ∙ inserted-made (a .s .now) (a .width) (a .used) (a .at) (a .row .now) (st .pre .0 .0) (st .pre .1) (st .pre .0 .1) (c .before .before .before .before .before .before .copy-up .last .0) (c .before .before .before .before .before .before .copy-up .ensures)
+    ∙ inserted-made (a .s .now) (a .width) (a .used) (a .at) (a .row .now) (st .pre .0 .0) (st .pre .1) (c .before .before .before .before .before .before .copy-up .last .0) (c .before .before .before .before .before .before .copy-up .ensures)
 
 pub insert-spec : {M : Type 1} → statement M
 insert-spec =
-    tie.close
-    (tie.spec
-    mul-here
-    add-copy-up
-    mul-copy-up
-    sub-copy-up
-    copy-up-requires
-    write-row-requires
-    same-length
-    returns)
+    tie.close (tie.spec mul-here add-copy-up (λ c. search needs) sub-copy-up copy-up-requires write-row-requires (λ c. search needs) returns)

@@ -16,43 +16,16 @@ Inv-loop s₀ width i row here j₀ s j = (j ≤ width) × (length s ≡ length 
 abbrev μ-loop : tie.MeasureT-loop
 μ-loop s₀ width i row here j₀ s j = width - j
 
-mul-here : tie.Need-mul-here Inv-loop μ-loop
-mul-here c = search needs
-
 loop-holds : tie.Need-loop-holds Inv-loop μ-loop
 loop-holds c =
     let a = c .args in
     (omega arith, refl, paste-zero (a .s .now) (a .i * a .width) (a .row .now))
-
-mul-s : tie.Need-mul-s Inv-loop μ-loop
-mul-s c = search needs
-
-shared-slice-read-s : tie.Need-shared-slice-read-s Inv-loop μ-loop
-shared-slice-read-s c = search needs
-
-add-s : tie.Need-add-s Inv-loop μ-loop
-add-s c = search needs
-
-mul-s-2 : tie.Need-mul-s-2 Inv-loop μ-loop
-mul-s-2 c = search needs
-
-slice-write-s : tie.Need-slice-write-s Inv-loop μ-loop
-slice-write-s c = search needs
-
-add-j : tie.Need-add-j Inv-loop μ-loop
-add-j c = search needs
-
-loop-less : tie.Need-loop-less Inv-loop μ-loop
-loop-less c = search needs
 
 loop-again : tie.Need-loop-again Inv-loop μ-loop
 loop-again c =
     let a = c .before .before .before .args in
     let l = c .before .before .loop in
     (omega arith, simp length-set (l .inv .1), next-word (a .s .now) (l .s) (a .row .now) (a .i * a .width) (l .j) (getD (a .row .now) (l .j) 0) (omega arith) (omega arith) refl (l .inv .2))
-
-same-length : tie.Need-same-length Inv-loop μ-loop
-same-length c = search needs
 
 returns : tie.Need-returns Inv-loop μ-loop
 returns c =
@@ -65,17 +38,5 @@ pub write-row-spec : {M : Type 1} → statement M
 write-row-spec =
     tie.close
     (tie.spec
-    Inv-loop
-    μ-loop
-    mul-here
-    loop-holds
-    mul-s
-    shared-slice-read-s
-    add-s
-    mul-s-2
-    slice-write-s
-    add-j
-    loop-less
-    loop-again
-    same-length
-    returns)
+    Inv-loop μ-loop (λ c. search needs) loop-holds (λ c. search needs) (λ c. search needs) (λ c. search needs) (λ c. search needs)
+    (λ c. search needs) (λ c. search needs) (λ c. search needs) loop-again (λ c. search needs) returns)

@@ -25,24 +25,12 @@ returns c =
 loop-holds : tie.Need-loop-holds Inv-loop μ-loop
 loop-holds c = (omega arith, refl)
 
-sub-loop : tie.Need-sub-loop Inv-loop μ-loop
-sub-loop c = search needs
-
-eight-blank-requires : tie.Need-eight-blank-requires Inv-loop μ-loop
-eight-blank-requires c κs = search needs
-
 returns-2 : tie.Need-returns-2 Inv-loop μ-loop
 returns-2 c =
     let s = c .before .before .before .before .before .before .args .s .now in
     let l = c .before .before .before .loop in
     let e = sym (c .before .eight-blank .ensures) ∙ not-true (c .before .eight-blank .result) (c .if2 .taken) in
     sym (l .inv .1 ∙ zero-eight s (l .j) (omega arith) ∙ ap (λ (b : Bool). b && allZero (drop (l .j + 8) s)) e)
-
-add-j : tie.Need-add-j Inv-loop μ-loop
-add-j c = search needs
-
-loop-less : tie.Need-loop-less Inv-loop μ-loop
-loop-less c = search needs
 
 loop-again : tie.Need-loop-again Inv-loop μ-loop
 loop-again c =
@@ -51,9 +39,6 @@ loop-again c =
     let e = sym (c .before .eight-blank .ensures) ∙ not-false (c .before .eight-blank .result) (c .if2 .left) in
     (omega arith, l .inv .1 ∙ zero-eight s (l .j) (omega arith) ∙ ap (λ (b : Bool). b && allZero (drop (l .j + 8) s)) e)
 
-rest-blank-requires : tie.Need-rest-blank-requires Inv-loop μ-loop
-rest-blank-requires c κs = search needs
-
 returns-3 : tie.Need-returns-3 Inv-loop μ-loop
 returns-3 c = c .rest-blank .ensures ∙ sym (c .before .before .loop .inv .1)
 
@@ -61,15 +46,5 @@ pub blank-spec : {M : Type 1} → statement M
 blank-spec =
     tie.close
     (tie.spec
-    Inv-loop
-    μ-loop
-    returns
-    loop-holds
-    sub-loop
-    eight-blank-requires
-    returns-2
-    add-j
-    loop-less
-    loop-again
-    rest-blank-requires
-    returns-3)
+    Inv-loop μ-loop returns loop-holds (λ c. search needs) (λ c κs. search needs) returns-2 (λ c. search needs) (λ c. search needs) loop-again
+    (λ c κs. search needs) returns-3)

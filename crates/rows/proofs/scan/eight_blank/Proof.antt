@@ -5,18 +5,9 @@ use borrow.Author.Needs.{needs}
 use Rattle.rows.proofs.scan.eight_blank.Statement.{statement}
 use Rattle.rows.proofs.scan.eight_blank.Tie as tie
 
-four-blank-requires : tie.Need-four-blank-requires
-four-blank-requires c κs = search needs
-
-add-four-blank : tie.Need-add-four-blank
-add-four-blank c = search needs
-
-four-blank-requires-2 : tie.Need-four-blank-requires-2
-four-blank-requires-2 c κs = search needs
-
 returns : tie.Need-returns
 returns c = ap₂ (λ (p q : Bool). p && q) (c .before .four-blank .ensures) (c .four-blank2 .ensures)
 
 pub eight-blank-spec : {M : Type 1} → statement M
 eight-blank-spec =
-    tie.close (tie.spec four-blank-requires add-four-blank four-blank-requires-2 returns)
+    tie.close (tie.spec (λ c κs. search needs) (λ c. search needs) (λ c κs. search needs) returns)

@@ -5,18 +5,9 @@ use borrow.Author.Needs.{needs}
 use Rattle.rows.proofs.scan.four_blank.Statement.{statement}
 use Rattle.rows.proofs.scan.four_blank.Tie as tie
 
-two-blank-requires : tie.Need-two-blank-requires
-two-blank-requires c κs = search needs
-
-add-two-blank : tie.Need-add-two-blank
-add-two-blank c = search needs
-
-two-blank-requires-2 : tie.Need-two-blank-requires-2
-two-blank-requires-2 c κs = search needs
-
 returns : tie.Need-returns
 returns c = ap₂ (λ (p q : Bool). p && q) (c .before .two-blank .ensures) (c .two-blank2 .ensures)
 
 pub four-blank-spec : {M : Type 1} → statement M
 four-blank-spec =
-    tie.close (tie.spec two-blank-requires add-two-blank two-blank-requires-2 returns)
+    tie.close (tie.spec (λ c κs. search needs) (λ c. search needs) (λ c κs. search needs) returns)

@@ -7,7 +7,7 @@ use native.Mathlib.Nat.{div-mul-le-self, div-le-self}
 use native.Mathlib.Omega.{arith}
 use lib.Dec.{eqb}
 use lib.ListN.{length}
-use Rattle.rows.specs.Halves.{halfOf}
+use Rattle.rows.specs.inner.Halves.{halfOf}
 use Rattle.rows.specs.declared.search.Span.{Span}
 use Rattle.rows.proofs.Order.{row-in}
 use Rattle.rows.proofs.Halves.{Counts, half-rows, counts-start, counts-half, counts-used}
@@ -19,9 +19,6 @@ Inv-loop s width at₀ at = Counts s width at
 
 abbrev μ-loop : tie.MeasureT-loop
 μ-loop s width at₀ at = at .rows
-
-div-t6 : tie.Need-div-t6 Inv-loop μ-loop
-div-t6 c = omega arith
 
 loop-holds : tie.Need-loop-holds Inv-loop μ-loop
 loop-holds c = counts-start (c .before .args .s .now) (c .before .args .width)
@@ -64,15 +61,4 @@ returns c =
 
 pub used-rows-spec : {M : Type 1} → statement M
 used-rows-spec =
-    tie.close
-    (tie.spec
-    Inv-loop
-    μ-loop
-    div-t6
-    loop-holds
-    add-mid
-    get-requires
-    halved-requires
-    loop-less
-    loop-again
-    returns)
+    tie.close (tie.spec Inv-loop μ-loop (λ c. omega arith) loop-holds add-mid get-requires halved-requires loop-less loop-again returns)

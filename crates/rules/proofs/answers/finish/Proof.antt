@@ -9,16 +9,10 @@ use Rattle.rules.specs.Answers.{done}
 use Rattle.rules.proofs.answers.finish.Statement.{statement}
 use Rattle.rules.proofs.answers.finish.Tie as tie
 
-cast-t5 : tie.Need-cast-t5
-cast-t5 c = search needs
-
-cast-t6 : tie.Need-cast-t6
-cast-t6 c = search needs
-
 returns : tie.Need-returns
 returns c =
     let a = c .args in
     ap₂ (λ (x y : ℤ). done x y (a .one) (a .two)) (toZ-pos w64 (a .first) (omega (arith, c .pre .0))) (toZ-pos w64 (a .second) (omega (arith, c .pre .1)))
 
 pub finish-spec : {M : Type 1} → statement M
-finish-spec = tie.close (tie.spec cast-t5 cast-t6 returns)
+finish-spec = tie.close (tie.spec (λ c. search needs) (λ c. search needs) returns)

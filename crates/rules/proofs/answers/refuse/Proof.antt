@@ -7,15 +7,9 @@ use Rattle.rules.specs.declared.Answer.{Answer}
 use Rattle.rules.proofs.answers.refuse.Statement.{statement}
 use Rattle.rules.proofs.answers.refuse.Tie as tie
 
-no-transfer-requires : tie.Need-no-transfer-requires
-no-transfer-requires c κs = search needs
-
-no-transfer-requires-2 : tie.Need-no-transfer-requires-2
-no-transfer-requires-2 c κs = search needs
-
 returns : tie.Need-returns
 returns c =
     ap₂ {C = Answer} (λ (x y : Transfer). record { code = c .before .before .args .code; first = pos 0; second = pos 0; one = x; two = y }) (c .before .no-transfer .ensures) (c .no-transfer2 .ensures)
 
 pub refuse-spec : {M : Type 1} → statement M
-refuse-spec = tie.close (tie.spec no-transfer-requires no-transfer-requires-2 returns)
+refuse-spec = tie.close (tie.spec (λ c κs. search needs) (λ c κs. search needs) returns)

@@ -7,14 +7,8 @@ use Rattle.rules.proofs.Conditions.{all-joined}
 use Rattle.rules.proofs.fields.is_key.Statement.{statement}
 use Rattle.rules.proofs.fields.is_key.Tie as tie
 
-is-pool-requires : tie.Need-is-pool-requires
-is-pool-requires c κs = search needs
-
-is-number-requires : tie.Need-is-number-requires
-is-number-requires c κs = search needs
-
 returns : tie.Need-returns
 returns c = ap₂ (λ (x y : Bool). x && y) (c .before .is-pool .ensures) (c .is-number .ensures) ∙ all-joined _ (_ ∷ [])
 
 pub is-key-spec : {M : Type 1} → statement M
-is-key-spec = tie.close (tie.spec is-pool-requires is-number-requires returns)
+is-key-spec = tie.close (tie.spec (λ c κs. search needs) (λ c κs. search needs) returns)

@@ -2,6 +2,8 @@
 use mathlib.Core.Path.{ap₂, _∙_}
 use mathlib.Core.Bool.{Bool, _&&_}
 use mathlib.Core.List.{[], _∷_}
+use Rattle.rules.specs.Limits.{isPool, isNumber}
+use Rattle.rules.specs.Table.{each}
 use Rattle.rules.proofs.Conditions.{all-joined}
 use borrow.Author.Needs.{needs}
 use Rattle.rules.proofs.malformed.claim_fields.Statement.{statement}
@@ -10,20 +12,13 @@ use Rattle.rules.proofs.malformed.claim_fields.Tie as tie
 abbrev both : Bool → Bool → Bool
 both x y = x && y
 
-is-pool-requires : tie.Need-is-pool-requires
-is-pool-requires c κs = search needs
-
-is-number-requires : tie.Need-is-number-requires
-is-number-requires c κs = search needs
-
-is-number-requires-2 : tie.Need-is-number-requires-2
-is-number-requires-2 c κs = search needs
-
 returns : tie.Need-returns
+unfolding each
 returns c =
+    let a = c .before .before .before .args .c in
     ap₂ both (ap₂ both (c .before .before .is-pool .ensures) (c .before .is-number .ensures)) (c .is-number2 .ensures)
-    ∙ all-joined _ (_ ∷ _ ∷ [])
+    ∙ all-joined (isPool (a .pool)) (isNumber (a .offer .0) ∷ isNumber (a .lender .0) ∷ [])
 
 pub claim-fields-spec : {M : Type 1} → statement M
 claim-fields-spec =
-    tie.close (tie.spec is-pool-requires is-number-requires is-number-requires-2 returns)
+    tie.close (tie.spec (λ c κs. search needs) (λ c κs. search needs) (λ c κs. search needs) returns)

@@ -10,15 +10,6 @@ use Rattle.rules.proofs.malformed.is_malformed.Tie as tie
 abbrev both : Bool → Bool → Bool
 both x y = x && y
 
-is-time-requires : tie.Need-is-time-requires
-is-time-requires c κs = search needs
-
-is-number-requires : tie.Need-is-number-requires
-is-number-requires c κs = search needs
-
-fields-fit-requires : tie.Need-fields-fit-requires
-fields-fit-requires c κs = search needs
-
 returns : tie.Need-returns
 unfolding malformed
 returns c =
@@ -28,4 +19,4 @@ returns c =
 
 pub is-malformed-spec : {M : Type 1} → statement M
 is-malformed-spec =
-    tie.close (tie.spec is-time-requires is-number-requires fields-fit-requires returns)
+    tie.close (tie.spec (λ c κs. search needs) (λ c κs. search needs) (λ c κs. search needs) returns)

@@ -2,6 +2,9 @@
 use mathlib.Core.Path.{ap₂, _∙_}
 use mathlib.Core.Bool.{Bool, _&&_}
 use mathlib.Core.List.{[], _∷_}
+use lib.Dec.{leb}
+use Rattle.rules.specs.Limits.{lastReply, isPool, isNumber}
+use Rattle.rules.specs.Table.{each}
 use Rattle.rules.proofs.Conditions.{all-joined}
 use borrow.Author.Needs.{needs}
 use Rattle.rules.proofs.malformed.pay_fields.Statement.{statement}
@@ -10,24 +13,14 @@ use Rattle.rules.proofs.malformed.pay_fields.Tie as tie
 abbrev both : Bool → Bool → Bool
 both x y = x && y
 
-is-pool-requires : tie.Need-is-pool-requires
-is-pool-requires c κs = search needs
-
-is-reply-requires : tie.Need-is-reply-requires
-is-reply-requires c κs = search needs
-
-is-number-requires : tie.Need-is-number-requires
-is-number-requires c κs = search needs
-
-is-number-requires-2 : tie.Need-is-number-requires-2
-is-number-requires-2 c κs = search needs
-
 returns : tie.Need-returns
+unfolding each
 returns c =
-    ap₂ both (ap₂ both (ap₂ both (c .before .before .before .is-pool .ensures) (c .before .before .is-reply .ensures)) (c .before .is-number .ensures)) (c .is-number2 .ensures)
-    ∙ all-joined _ (_ ∷ _ ∷ _ ∷ [])
+    let a = c .before .before .before .before .args .c in
+    ap₂ both (ap₂ both (ap₂ both (c .before .before .before .is-pool .ensures) (c .before .before .is-number .ensures)) (c .before .is-number2 .ensures)) (c .is-reply .ensures)
+    ∙ all-joined (isPool (a .pool)) (isNumber (a .invoice .0) ∷ isNumber (a .beneficiary .0) ∷ leb (a .reply) lastReply ∷ [])
 
 pub pay-fields-spec : {M : Type 1} → statement M
 pay-fields-spec =
     tie.close
-    (tie.spec is-pool-requires is-reply-requires is-number-requires is-number-requires-2 returns)
+    (tie.spec (λ c κs. search needs) (λ c κs. search needs) (λ c κs. search needs) (λ c κs. search needs) returns)

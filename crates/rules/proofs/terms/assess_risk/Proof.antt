@@ -10,20 +10,21 @@ use mir.Syntax.{w64}
 use mir.Val.{toZ, ofZ}
 use mir.ValLaws.{toZ-ofZ}
 use borrow.Author.Needs.{needs}
+use Rattle.rules.specs.Limits.{riskAge, riskAmount, aggressive}
 use Rattle.rules.specs.Terms.{point, assessRisk}
 use Rattle.rules.proofs.terms.assess_risk.Statement.{statement}
 use Rattle.rules.proofs.terms.assess_risk.Tie as tie
 
 -- the answers, of the three points p, q and s
 module _ (age repayments defaults : ℕ) (amount : ℤ) where
-  no-amount : leZ amount (pos 0) ≡ true → 2 ≡ assessRisk age repayments defaults amount
+  no-amount : leZ amount (pos 0) ≡ true → aggressive ≡ assessRisk age repayments defaults amount
   no-amount e = rw e
 
-  module _ (p q s : ℕ) (some : leZ amount (pos 0) ≡ false) (old : p ≡ point (leb 2_592_000 age)) (failing : q ≡ point (ltb repayments defaults)) (large : s ≡ point (leZ (pos 1_000_000_000) amount)) where
-    most : 2 < p + q + s → 2 ≡ assessRisk age repayments defaults amount
+  module _ (p q s : ℕ) (some : leZ amount (pos 0) ≡ false) (old : p ≡ point (leb riskAge age)) (failing : q ≡ point (ltb repayments defaults)) (large : s ≡ point (leZ (pos riskAmount) amount)) where
+    most : aggressive < p + q + s → aggressive ≡ assessRisk age repayments defaults amount
     most h = rw some (omega arith)
 
-    fewer : p + q + s ≤ 2 → p + q + s ≡ assessRisk age repayments defaults amount
+    fewer : p + q + s ≤ aggressive → p + q + s ≡ assessRisk age repayments defaults amount
     fewer h = rw some (omega arith)
 
 abbrev st : tie.After-point-of3 → tie.Start
@@ -39,26 +40,11 @@ back s = toZ-ofZ w64 (amount s) (s .fits .amount)
 some-amount : (c : tie.Else1) → leZ (amount (c .before)) (pos 0) ≡ false
 some-amount c = rw (back (c .before)) at (c .if1 .left)
 
-large-point : (c : tie.After-point-of3) → c .point-of3 .result ≡ point (leZ (pos 1_000_000_000) (amount (st c)))
-large-point c = c .point-of3 .ensures .0 ∙ ap (λ (z : ℤ). point (leZ (pos 1_000_000_000) z)) (back (st c))
+large-point : (c : tie.After-point-of3) → c .point-of3 .result ≡ point (leZ (pos riskAmount) (amount (st c)))
+large-point c = c .point-of3 .ensures .0 ∙ ap (λ (z : ℤ). point (leZ (pos riskAmount) z)) (back (st c))
 
 returns : tie.Need-returns
 returns c = let a = c .before .args in no-amount (a .age) (a .repayments) (a .defaults) (a .amount) (rw (back (c .before)) at (c .if1 .taken))
-
-point-of-requires : tie.Need-point-of-requires
-point-of-requires c κs = search needs
-
-point-of-requires-2 : tie.Need-point-of-requires-2
-point-of-requires-2 c κs = search needs
-
-point-of-requires-3 : tie.Need-point-of-requires-3
-point-of-requires-3 c κs = search needs
-
-add-points : tie.Need-add-points
-add-points c = search needs
-
-add-points-2 : tie.Need-add-points-2
-add-points-2 c = search needs
 
 returns-2 : tie.Need-returns-2
 returns-2 c =
@@ -77,10 +63,10 @@ assess-risk-spec =
     tie.close
     (tie.spec
     returns
-    point-of-requires
-    point-of-requires-2
-    point-of-requires-3
-    add-points
-    add-points-2
+    (λ c κs. search needs)
+    (λ c κs. search needs)
+    (λ c κs. search needs)
+    (λ c. search needs)
+    (λ c. search needs)
     returns-2
     returns-3)

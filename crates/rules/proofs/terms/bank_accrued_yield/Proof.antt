@@ -28,33 +28,15 @@ answered c =
 abbrev else1 : tie.After-compute-yield → tie.Else1
 else1 c = c .before .before
 
-is-negative-requires : tie.Need-is-negative-requires
-is-negative-requires c κs = search needs
-
 returns : tie.Need-returns
 returns c =
     let a = c .before .before .args in
     none-banked (a .rate) (a .time) (stake (c .before .before)) (a .since) (a .accrual) (sym (c .before .is-negative .ensures) ∙ c .if1 .taken) (omega arith)
 
-elapsed-secs-requires : tie.Need-elapsed-secs-requires
-elapsed-secs-requires c κs = search needs
-
 compute-yield-requires : tie.Need-compute-yield-requires
 compute-yield-requires c κs =
     let s = c .before .before .before in
     omega (arith, mul-le-mul-right (c .elapsed-secs .result) (s .pre .0), c .elapsed-secs .ensures)
-
-enum-known-earned : tie.Need-enum-known-earned
-enum-known-earned c = search needs
-
-sub-if2 : tie.Need-sub-if2
-sub-if2 c = search needs
-
-add-t14 : tie.Need-add-t14
-add-t14 c = search needs
-
-enum-told : tie.Need-enum-told
-enum-told c = search needs
 
 returns-2 : tie.Need-returns-2
 returns-2 c =
@@ -80,14 +62,14 @@ pub bank-accrued-yield-spec : {M : Type 1} → statement M
 bank-accrued-yield-spec =
     tie.close
     (tie.spec
-    is-negative-requires
+    (λ c κs. search needs)
     returns
-    elapsed-secs-requires
+    (λ c κs. search needs)
     compute-yield-requires
-    enum-known-earned
-    sub-if2
-    add-t14
-    enum-told
+    (λ c. search needs)
+    (λ c. search needs)
+    (λ c. search needs)
+    (λ c. search needs)
     returns-2
     returns-3
     returns-4)

@@ -12,6 +12,7 @@ use Rattle.limbs.specs.MulDiv.{mulDiv}
 use Rattle.limbs.specs.declared.MulDiv.{MulDiv}
 use Rattle.limbs.specs.declared.MulDiv.the-variants.{Exact, TooLarge}
 use Rattle.limbs.proofs.Cases.{mulDiv-exact}
+use Rattle.rules.specs.Limits.{basisPoints, flat}
 use Rattle.rules.specs.Terms.{tierParameters, capped}
 use Rattle.rules.proofs.Tiers.{tier-range}
 use Rattle.rules.proofs.terms.capped_amount.Statement.{statement}
@@ -31,24 +32,12 @@ answered c =
     let s = st c .args in
     let cap = getD tierParameters (s .pool) (0, 0) .1 in
     let told : c .before .tier-parameters .result .cap ≡ cap = ap (λ (t : ℕ × ℕ). t .1) (c .before .tier-parameters .ensures) in
-    let fits : s .amount * cap / 10_000 < 2 ^ 64 = lt-of-le-of-lt (part-le (s .amount) cap 10_000 (tier-range (s .pool) .cap)) (st c .fits .amount .fits) in
-    ap quotientOf (c .mul-div .ensures ∙ ap (λ (n : ℕ). mulDiv (s .amount) n 10_000) told ∙ mulDiv-exact (s .amount) cap 10_000 (omega arith) fits)
-    ∙ rw (ne-eqb (s .pool) 3 (c .before .before .if1 .left))
+    let fits : s .amount * cap / basisPoints < 2 ^ 64 = lt-of-le-of-lt (part-le (s .amount) cap basisPoints (tier-range (s .pool) .cap)) (st c .fits .amount .fits) in
+    ap quotientOf (c .mul-div .ensures ∙ ap (λ (n : ℕ). mulDiv (s .amount) n basisPoints) told ∙ mulDiv-exact (s .amount) cap basisPoints (omega arith) fits)
+    ∙ rw (ne-eqb (s .pool) flat (c .before .before .if1 .left))
 
 returns : tie.Need-returns
-returns c = rw (eq-eqb _ 3 (c .if1 .taken))
-
-tier-parameters-requires : tie.Need-tier-parameters-requires
-tier-parameters-requires c κs = search needs
-
-mul-div-requires : tie.Need-mul-div-requires
-mul-div-requires c κs = search needs
-
-enum-known-quotient : tie.Need-enum-known-quotient
-enum-known-quotient c = search needs
-
-enum-told : tie.Need-enum-told
-enum-told c = search needs
+returns c = rw (eq-eqb _ flat (c .if1 .taken))
 
 returns-2 : tie.Need-returns-2
 returns-2 c = ap quotientOf (sym (c .before .quotient .given .1)) ∙ answered (c .before .before .before)
@@ -61,9 +50,9 @@ capped-amount-spec =
     tie.close
     (tie.spec
     returns
-    tier-parameters-requires
-    mul-div-requires
-    enum-known-quotient
-    enum-told
+    (λ c κs. search needs)
+    (λ c κs. search needs)
+    (λ c. search needs)
+    (λ c. search needs)
     returns-2
     returns-3)

@@ -5,8 +5,8 @@ use native.Mathlib.Omega.{arith}
 use borrow.Author.Needs.{needs}
 use mir.Syntax.{w64}
 use mir.Val.{toZ}
-use Rattle.rules.specs.Terms.{computeYield}
-use Rattle.rules.specs.Terms.{yieldAnswer}
+use Rattle.rules.specs.Limits.{yearDivisor}
+use Rattle.rules.specs.Terms.{computeYield, yieldAnswer}
 use Rattle.rules.proofs.Yields.{asYield, yield-is}
 use Rattle.rules.proofs.terms.compute_yield.Statement.{statement}
 use Rattle.rules.proofs.terms.compute_yield.Tie as tie
@@ -14,19 +14,7 @@ use Rattle.rules.proofs.terms.compute_yield.Tie as tie
 answered : (c : tie.After-signed-mul-div) → asYield (c .signed-mul-div .result) ≡ (let s = c .before .args in yieldAnswer (computeYield (toZ w64 (s .principal)) (s .rate) (s .elapsed)))
 answered c =
     let s = c .before .args in
-    ap asYield (c .signed-mul-div .ensures) ∙ yield-is (toZ w64 (s .principal)) (s .rate * s .elapsed) 315_360_000_000 (omega arith) (omega arith)
-
-mul-signed-mul-div : tie.Need-mul-signed-mul-div
-mul-signed-mul-div c = search needs
-
-signed-mul-div-requires : tie.Need-signed-mul-div-requires
-signed-mul-div-requires c κs = search needs
-
-enum-known-quotient : tie.Need-enum-known-quotient
-enum-known-quotient c = search needs
-
-enum-told : tie.Need-enum-told
-enum-told c = search needs
+    ap asYield (c .signed-mul-div .ensures) ∙ yield-is (toZ w64 (s .principal)) (s .rate * s .elapsed) yearDivisor (omega arith) (omega arith)
 
 returns : tie.Need-returns
 returns c = ap asYield (sym (c .before .quotient .given .1)) ∙ answered (c .before .before .before)
@@ -38,9 +26,9 @@ pub compute-yield-spec : {M : Type 1} → statement M
 compute-yield-spec =
     tie.close
     (tie.spec
-    mul-signed-mul-div
-    signed-mul-div-requires
-    enum-known-quotient
-    enum-told
+    (λ c. search needs)
+    (λ c κs. search needs)
+    (λ c. search needs)
+    (λ c. search needs)
     returns
     returns-2)

@@ -7,12 +7,6 @@ use Rattle.rules.proofs.Tiers.{read-at}
 use Rattle.rules.proofs.terms.tier_parameters.Statement.{statement}
 use Rattle.rules.proofs.terms.tier_parameters.Tie as tie
 
-mul-result : tie.Need-mul-result
-mul-result c = search needs
-
-array-copy-out-result : tie.Need-array-copy-out-result
-array-copy-out-result c = search needs
-
 abbrev pair : TierTerms → ℕ × ℕ
 pair t = (t .apy, t .cap)
 
@@ -24,4 +18,4 @@ returns : tie.Need-returns
 returns c = read-at pair table (c .before .args .tier) (record { apy = 0; cap = 0 })
 
 pub tier-parameters-spec : {M : Type 1} → statement M
-tier-parameters-spec = tie.close (tie.spec mul-result array-copy-out-result returns)
+tier-parameters-spec = tie.close (tie.spec (λ c. search needs) (λ c. search needs) returns)

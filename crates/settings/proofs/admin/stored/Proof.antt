@@ -7,18 +7,9 @@ use Rattle.rules.specs.Answers.{done}
 use Rattle.settings.proofs.admin.stored.Statement.{statement}
 use Rattle.settings.proofs.admin.stored.Tie as tie
 
-no-transfer-requires : tie.Need-no-transfer-requires
-no-transfer-requires c κs = search needs
-
-no-transfer-requires-2 : tie.Need-no-transfer-requires-2
-no-transfer-requires-2 c κs = search needs
-
-finish-requires : tie.Need-finish-requires
-finish-requires c κs = search needs
-
 returns : tie.Need-returns
 returns c =
     c .finish .ensures ∙ ap₂ (λ (x y : Transfer). done (pos 0) (pos 0) x y) (c .before .before .no-transfer .ensures) (c .before .no-transfer2 .ensures)
 
 pub stored-spec : {M : Type 1} → statement M
-stored-spec = tie.close (tie.spec no-transfer-requires no-transfer-requires-2 finish-requires returns)
+stored-spec = tie.close (tie.spec (λ c κs. search needs) (λ c κs. search needs) (λ c κs. search needs) returns)

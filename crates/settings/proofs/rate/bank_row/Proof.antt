@@ -3,16 +3,17 @@ use mathlib.Core.Path.{_≡_, sym, ap, _∙_, subst⁻¹}
 use mathlib.Core.Bool.{true}
 use borrow.Author.Needs.{needs}
 use borrow.Author.Tests.{not-true, not-false, le-leb}
-use Rattle.rows.specs.Rows.{written}
+use Rattle.rows.specs.inner.Moves.{rowWritten}
 use Rattle.rows.proofs.Order.{false-true}
 use Rattle.rules.specs.Limits.{limit, flat}
 use Rattle.rules.specs.Books.{StakeRow}
 use Rattle.rules.specs.Sharing.{sharer}
+use Rattle.books.specs.Layout.{stakeWidth}
 use Rattle.books.specs.Words.{stakeRowAt, stakeWords}
-use Rattle.books.specs.Held.{stakeOf}
-use Rattle.books.specs.Banking.{Bankable}
+use Rattle.books.specs.inner.Held.{stakeOf}
+use Rattle.books.specs.inner.Banking.{Bankable}
 use Rattle.books.proofs.StakeRows.{rewritten}
-use Rattle.settings.specs.Rates.{bankedBy}
+use Rattle.settings.specs.inner.Banking.{bankedBy}
 use Rattle.settings.proofs.RateRows.{fits, other-row, fits-over, banked-row}
 use Rattle.settings.proofs.rate.bank_row.Statement.{statement}
 use Rattle.settings.proofs.rate.bank_row.Tie as tie
@@ -27,41 +28,20 @@ row-is c = c .before .stake-at .ensures
 shares : (c : tie.Else1) → sharer flat (stakeOf (c .before .before .stake-at .result)) ≡ true
 shares c = sym (c .before .is-sharer .ensures) ∙ not-false _ (c .if1 .left)
 
-stake-at-requires : tie.Need-stake-at-requires
-stake-at-requires c κs = search needs
-
-is-sharer-requires : tie.Need-is-sharer-requires
-is-sharer-requires c κs = search needs
-
-same-length : tie.Need-same-length
-same-length c = search needs
-
 returns : tie.Need-returns
 returns c =
     let d = c .before in
     let s = st d in
     let a = s .args in
     let e = ap (sharer flat) (sym (row-is d)) ∙ sym (d .is-sharer .ensures) ∙ not-true _ (c .if1 .taken) in
-    sym (ap (λ (r : StakeRow). written (a .stakes .now) 5 (a .i) (stakeWords r)) (other-row (a .books .now) (a .time) (stakeRowAt (a .stakes .now) (a .i)) e)
+    sym (ap (λ (r : StakeRow). rowWritten (a .stakes .now) stakeWidth (a .i) (stakeWords r)) (other-row (a .books .now) (a .time) (stakeRowAt (a .stakes .now) (a .i)) e)
     ∙ rewritten (a .stakes .now) (λ j. d .before .before .before .before .slice-known .given j .fits) (a .i) (s .pre .0))
 
 banked-of-requires : tie.Need-banked-of-requires
 banked-of-requires c κs =
     let d = c .before in
     let s = st d in
-    subst⁻¹ (λ (r : StakeRow). Bankable (s .args .books .now) 3 (s .args .time) (r .accrual)) (row-is d) (s .pre .1 .0)
-
-enum-known-accrual : tie.Need-enum-known-accrual
-enum-known-accrual c = search needs
-
-write-stake-requires : tie.Need-write-stake-requires
-write-stake-requires c κs = search needs
-
-enum-told : tie.Need-enum-told
-enum-told c = search needs
-
-same-length-2 : tie.Need-same-length-2
-same-length-2 c = search needs
+    subst⁻¹ (λ (r : StakeRow). Bankable (s .args .books .now) flat (s .args .time) (r .accrual)) (row-is d) (s .pre .1 .0)
 
 returns-2 : tie.Need-returns-2
 returns-2 c =
@@ -72,12 +52,9 @@ returns-2 c =
     let a = st d .args in
     let r = stakeOf (d .before .stake-at .result) in
     w .write-stake .ensures
-    ∙ ap (λ (x : StakeRow). written (a .stakes .now) 5 (a .i) (stakeWords x))
+    ∙ ap (λ (x : StakeRow). rowWritten (a .stakes .now) stakeWidth (a .i) (stakeWords x))
     (banked-row (a .books .now) (a .time) r (shares (k .before)) (k .banked-of .result) (k .banked-of .ensures) (n .accrual .given .0 .0) (n .accrual .given .1)
     ∙ ap (bankedBy (a .books .now) (a .time)) (row-is d))
-
-same-length-3 : tie.Need-same-length-3
-same-length-3 c = search needs
 
 -- an accrual that is within its limit is not over it
 returns-3 : tie.Need-returns-3
@@ -95,15 +72,5 @@ pub bank-row-spec : {M : Type 1} → statement M
 bank-row-spec =
     tie.close
     (tie.spec
-    stake-at-requires
-    is-sharer-requires
-    same-length
-    returns
-    banked-of-requires
-    enum-known-accrual
-    write-stake-requires
-    enum-told
-    same-length-2
-    returns-2
-    same-length-3
-    returns-3)
+    (λ c κs. search needs) (λ c κs. search needs) (λ c. search needs) returns banked-of-requires (λ c. search needs) (λ c κs. search needs)
+    (λ c. search needs) (λ c. search needs) returns-2 (λ c. search needs) returns-3)

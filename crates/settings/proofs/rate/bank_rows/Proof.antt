@@ -4,11 +4,12 @@ use Prim.Native.Nat.{_-_, _≤_, _<_}
 use native.Mathlib.Omega.{arith}
 use borrow.Author.Needs.{needs}
 use borrow.Author.Tests.{leb-true}
-use Rattle.rules.specs.Limits.{limit}
+use Rattle.rules.specs.Limits.{limit, flat}
 use Rattle.rules.specs.Books.{StakeRow}
+use Rattle.books.specs.Layout.{stakeWidth}
 use Rattle.books.specs.Tables.{usedOf}
-use Rattle.books.specs.Banking.{Bankable}
-use Rattle.settings.specs.Rates.{bankedBy}
+use Rattle.books.specs.inner.Banking.{Bankable}
+use Rattle.settings.specs.inner.Banking.{bankedBy}
 use Rattle.settings.proofs.RateRows.{fits-at, others-stay, row-can}
 use Rattle.settings.proofs.RateWalk.{Banking, begins, same-row, turn, ends}
 use Rattle.settings.proofs.rate.bank_rows.Statement.{statement}
@@ -28,10 +29,7 @@ loop-holds : tie.Need-loop-holds Inv-loop μ-loop
 loop-holds c =
     let s = c .before .before in
     let a = s .args in
-    (s .pre .0 .flats .most, begins (a .books .now) (a .time) (a .stakes .now) (a .used) (s .pre .0 .held) (λ j. c .before .slice-known .given j .fits))
-
-sub-i : tie.Need-sub-i Inv-loop μ-loop
-sub-i c = search needs
+    (s .pre .0 .most, begins (a .books .now) (a .time) (a .stakes .now) (a .used) (s .pre .0 .held) (λ j. c .before .slice-known .given j .fits))
 
 bank-row-requires : tie.Need-bank-row-requires Inv-loop μ-loop
 bank-row-requires c κs =
@@ -43,16 +41,13 @@ bank-row-requires c κs =
     let here : l .i - 1 < a .used = omega (arith, l .inv .1 .most) in
     let same = same-row (a .books .now) (a .time) (a .stakes .now) (a .used) (p .held) (l .stakes) (l .i) (l .inv .1) (l .i - 1) (omega arith) in
     let can = row-can (a .books .now) (a .time) (a .stakes .now) (a .from) (a .used) p (l .i - 1) here in
-    let fit = fits-at (a .books .now) (a .time) (a .stakes .now) 0 (usedOf 5 (a .stakes .now)) (s .pre .1) (l .i - 1) (omega arith) (omega (arith, p .held .table .used)) in (
+    let fit = fits-at (a .books .now) (a .time) (a .stakes .now) 0 (usedOf stakeWidth (a .stakes .now)) (s .pre .1) (l .i - 1) (omega arith) (omega (arith, p .held .table .used)) in (
       omega (arith, l .inv .1 .most, l .inv .1 .same, p .held .table .fits),
       (
-        subst⁻¹ (λ (r : StakeRow). Bankable (a .books .now) 3 (a .time) (r .accrual)) same can,
+        subst⁻¹ (λ (r : StakeRow). Bankable (a .books .now) flat (a .time) (r .accrual)) same can,
         subst⁻¹ (λ (r : StakeRow). bankedBy (a .books .now) (a .time) r .accrual ≤ limit) same (leb-true _ limit fit),
       ),
     )
-
-loop-less : tie.Need-loop-less Inv-loop μ-loop
-loop-less c = search needs
 
 loop-again : tie.Need-loop-again Inv-loop μ-loop
 loop-again c =
@@ -75,14 +70,4 @@ returns c =
 
 pub bank-rows-spec : {M : Type 1} → statement M
 bank-rows-spec =
-    tie.close
-    (tie.spec
-    Inv-loop
-    μ-loop
-    loop-holds
-    sub-i
-    bank-row-requires
-    loop-less
-    loop-again
-    same-length
-    returns)
+    tie.close (tie.spec Inv-loop μ-loop loop-holds (λ c. search needs) bank-row-requires (λ c. search needs) loop-again same-length returns)

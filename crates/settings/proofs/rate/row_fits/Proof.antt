@@ -5,7 +5,7 @@ use borrow.Author.Needs.{needs}
 use borrow.Author.Tests.{not-true, not-false}
 use Rattle.rules.specs.Limits.{flat}
 use Rattle.rules.specs.Sharing.{sharer}
-use Rattle.books.specs.Held.{stakeOf}
+use Rattle.books.specs.inner.Held.{stakeOf}
 use Rattle.settings.proofs.RateRows.{fits-other, fits-to, fits-over}
 use Rattle.settings.proofs.rate.row_fits.Statement.{statement}
 use Rattle.settings.proofs.rate.row_fits.Tie as tie
@@ -13,23 +13,11 @@ use Rattle.settings.proofs.rate.row_fits.Tie as tie
 shares : (c : tie.Else1) → sharer flat (stakeOf (c .before .before .before .args .row)) ≡ true
 shares c = sym (c .before .is-sharer .ensures) ∙ not-false _ (c .if1 .left)
 
-is-sharer-requires : tie.Need-is-sharer-requires
-is-sharer-requires c κs = search needs
-
 returns : tie.Need-returns
 returns c =
     let s = c .before .before .before in
     let a = s .args in
     fits-other (a .books .now) (a .time) (stakeOf (a .row)) (sym (c .before .is-sharer .ensures) ∙ not-true _ (c .if1 .taken)) (s .pre .accrued)
-
-banked-of-requires : tie.Need-banked-of-requires
-banked-of-requires c κs = search needs
-
-enum-told : tie.Need-enum-told
-enum-told c = search needs
-
-enum-told-2 : tie.Need-enum-told-2
-enum-told-2 c = search needs
 
 returns-2 : tie.Need-returns-2
 returns-2 c =
@@ -45,12 +33,4 @@ returns-3 c =
 
 pub row-fits-spec : {M : Type 1} → statement M
 row-fits-spec =
-    tie.close
-    (tie.spec
-    is-sharer-requires
-    returns
-    banked-of-requires
-    enum-told
-    enum-told-2
-    returns-2
-    returns-3)
+    tie.close (tie.spec (λ c κs. search needs) returns (λ c κs. search needs) (λ c. search needs) (λ c. search needs) returns-2 returns-3)

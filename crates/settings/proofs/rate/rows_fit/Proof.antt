@@ -4,9 +4,10 @@ use Prim.Native.Nat.{ℕ, _-_, _≤_, _<_}
 use native.Mathlib.Omega.{arith}
 use borrow.Author.Needs.{needs}
 use borrow.Author.Tests.{not-true, not-false}
+use Rattle.rules.specs.Limits.{flat}
 use Rattle.rules.specs.Books.{StakeRow}
 use Rattle.books.specs.Words.{stakeRowAt}
-use Rattle.books.specs.Banking.{Bankable}
+use Rattle.books.specs.inner.Banking.{Bankable}
 use Rattle.settings.proofs.RateRows.{fits, Fits, all-fit, one-over, row-can, fits-down}
 use Rattle.settings.proofs.rate.rows_fit.Statement.{statement}
 use Rattle.settings.proofs.rate.rows_fit.Tie as tie
@@ -25,10 +26,7 @@ fits-is : (c : tie.After-row-fits Inv-loop μ-loop) → let a = st c .args in c 
 fits-is c = let a = st c .args in c .row-fits .ensures ∙ ap (fits (a .books .now) (a .time)) (c .before .stake-at .ensures)
 
 loop-holds : tie.Need-loop-holds Inv-loop μ-loop
-loop-holds c = (c .before .before .pre .flats .most, omega arith, λ j p q. absurd (omega arith))
-
-sub-i : tie.Need-sub-i Inv-loop μ-loop
-sub-i c = search needs
+loop-holds c = (c .before .before .pre .most, omega arith, λ j p q. absurd (omega arith))
 
 stake-at-requires : tie.Need-stake-at-requires Inv-loop μ-loop
 stake-at-requires c κs =
@@ -40,7 +38,7 @@ row-fits-requires c κs =
     let l = c .before .before .loop in
     let s = c .before .before .before .before .before in
     let a = s .args in
-    subst⁻¹ (λ (r : StakeRow). Bankable (a .books .now) 3 (a .time) (r .accrual)) (c .stake-at .ensures)
+    subst⁻¹ (λ (r : StakeRow). Bankable (a .books .now) flat (a .time) (r .accrual)) (c .stake-at .ensures)
     (row-can (a .books .now) (a .time) (a .stakes .now) (a .from) (a .used) (s .pre) (l .i - 1) (omega arith))
 
 returns : tie.Need-returns Inv-loop μ-loop
@@ -50,9 +48,6 @@ returns c =
     let s = st k in
     let a = s .args in
     one-over (a .books .now) (a .time) (a .stakes .now) (a .from) (a .used) (s .pre) (l .i - 1) (omega arith) (sym (fits-is k) ∙ not-true _ (c .if1 .taken))
-
-loop-less : tie.Need-loop-less Inv-loop μ-loop
-loop-less c = search needs
 
 loop-again : tie.Need-loop-again Inv-loop μ-loop
 loop-again c =
@@ -72,13 +67,4 @@ pub rows-fit-spec : {M : Type 1} → statement M
 rows-fit-spec =
     tie.close
     (tie.spec
-    Inv-loop
-    μ-loop
-    loop-holds
-    sub-i
-    stake-at-requires
-    row-fits-requires
-    returns
-    loop-less
-    loop-again
-    returns-2)
+    Inv-loop μ-loop loop-holds (λ c. search needs) stake-at-requires row-fits-requires returns (λ c. search needs) loop-again returns-2)

@@ -8,7 +8,7 @@ use mir.Val.{toZ}
 use borrow.Author.Needs.{needs}
 use borrow.Author.Tests.{eq-eqb, ne-eqb}
 use Rattle.rules.specs.Answers.{notBy}
-use Rattle.stakes.specs.Staking.{stakerCode}
+use Rattle.stakes.specs.inner.Figures.{stakerCode}
 use Rattle.stakes.proofs.StakeWords.{le-not}
 use Rattle.stakes.proofs.staker.staker_code.Statement.{statement}
 use Rattle.stakes.proofs.staker.staker_code.Tie as tie
@@ -30,9 +30,6 @@ returns-2 c =
     let a = start (c .before) .args in
     rw (c .before .before .before .if1 .left, ne-eqb (a .signer .0) (a .c .staker .0) (c .if2 .taken))
 
-less-requires : tie.Need-less-requires
-less-requires c κs = search needs
-
 returns-3 : tie.Need-returns-3
 unfolding stakerCode notBy
 returns-3 c =
@@ -48,4 +45,4 @@ returns-4 c =
     rw (e .before .before .before .if1 .left, eq-eqb (a .signer .0) (a .c .staker .0) (e .if2 .left), low-is (c .before) ∙ ap not (c .if3 .left))
 
 pub staker-code-spec : {M : Type 1} → statement M
-staker-code-spec = tie.close (tie.spec returns returns-2 less-requires returns-3 returns-4)
+staker-code-spec = tie.close (tie.spec returns returns-2 (λ c κs. search needs) returns-3 returns-4)

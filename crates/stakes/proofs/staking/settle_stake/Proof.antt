@@ -4,7 +4,7 @@ use mathlib.Core.Bool.{Bool, false}
 use Prim.Native.Nat.{_^_, _<_}
 use native.Mathlib.Omega.{arith}
 use borrow.Author.Needs.{needs}
-use borrow.Author.Tests.{lt-ltb, le-ltb}
+use borrow.Author.Tests.{ne-eqb, lt-ltb, le-ltb}
 use lib.Dec.{ltb}
 use lib.IntN.{ℤ, pos, _+ℤ_}
 use lib.Signed.{ltZ, leZ}
@@ -15,12 +15,13 @@ use Rattle.rules.specs.Limits.{limit, leastStake}
 use Rattle.rules.specs.Terms.{bankedAnswer}
 use Rattle.rules.specs.Books.{Books, StakeRow}
 use Rattle.rules.specs.declared.StakeCall.{StakeCall}
+use Rattle.rules.specs.Stakes as plans
 use Rattle.rules.specs.Stakes.{oldStake, stakedRow, yieldDue, noStakeRoom}
 use Rattle.books.specs.Words.{Tables, tables, booksOf}
-use Rattle.books.specs.Held.{stakeOf, HeldStakes}
+use Rattle.books.specs.inner.Held.{stakeOf, HeldStakes}
 use Rattle.books.proofs.Good.{good-read, stakes-held}
 use Rattle.books.proofs.Writing.{paused-is, stake-is}
-use Rattle.stakes.specs.Staking.{askOf, stakerCode}
+use Rattle.stakes.specs.inner.Figures.{askOf, stakerCode, staking}
 use Rattle.books.proofs.Accruals.{banked-to, banked-over}
 use Rattle.stakes.proofs.StakeWords.{over-is, sum-fits, amount-within}
 use Rattle.stakes.proofs.StakeRungs as rungs
@@ -45,10 +46,7 @@ start c = c .before .before .before .before .before
 -- ---- the first rungs
 
 is-paused-requires : tie.Need-is-paused-requires
-is-paused-requires c κs = let s = c .before .before .before in good-read (tab s) (s .pre .0) .twelve
-
-staker-code-requires : tie.Need-staker-code-requires
-staker-code-requires c κs = search needs
+is-paused-requires c κs = let s = c .before .before .before in good-read (tab s) (s .pre .0) .sized
 
 code-is : (c : tie.After-staker-code) → let s = start c in c .staker-code .result ≡ stakerCode (b s .settings .paused) (s .args .signer) (call s)
 code-is c =
@@ -56,7 +54,7 @@ code-is c =
     c .staker-code .ensures ∙ ap (λ (v : Bool). stakerCode v (s .args .signer) (call s)) (c .before .is-paused .ensures ∙ paused-is (tab s))
 
 returns : tie.Need-returns
-returns c = let s = start (c .before) in rungs.code-is (b s) (s .args .time) (s .args .signer) (call s) _ (code-is (c .before)) (c .if1 .taken)
+returns c = let s = start (c .before) in let e = code-is (c .before) in rungs.turned-down _ _ _ _ (rungs.by-code (b s) (s .args .time) (s .args .signer) (call s) ∙ rw (sym e, ne-eqb _ 0 (c .if1 .taken)))
 
 code-zero : (c : tie.Else1) → let s = start (c .before) in stakerCode (b s .settings .paused) (s .args .signer) (call s) ≡ 0
 code-zero c = sym (code-is (c .before)) ∙ c .if1 .left
@@ -76,7 +74,7 @@ amount-test c =
 returns-2 : tie.Need-returns-2
 returns-2 c =
     let s = start (c .before .before .before) in
-    rungs.amount-over (b s) (s .args .time) (s .args .signer) (call s) (code-zero (c .before .before)) (amount-test (c .before) ∙ lt-ltb limit (s .args .c .amount) (c .if2 .taken))
+    rungs.turned-down _ _ _ _ (rungs.by-code (b s) (s .args .time) (s .args .signer) (call s) ∙ rw (code-zero (c .before .before), amount-test (c .before) ∙ lt-ltb limit (s .args .c .amount) (c .if2 .taken)))
 
 abbrev from : tie.Else2 → tie.Start
 from c = start (c .before .before .before)
@@ -93,7 +91,7 @@ read-stake-requires : tie.Need-read-stake-requires
 read-stake-requires c κs = let s = from (c .before) in subst⁻¹ (HeldStakes (s .args .stakes .now)) (c .used-stakes .ensures) (stakes-held (tab s) (s .pre .0))
 
 row-is : (c : tie.After-read-stake) → let s = from (c .before .before) in stakeOf (c .read-stake .result) ≡ oldStake (b s) (call s)
-row-is c = let s = from (c .before .before) in c .read-stake .ensures ∙ stake-is (tab s) (s .args .c .pool) (s .args .c .staker .0)
+row-is c = let s = from (c .before .before) in c .read-stake .ensures ∙ stake-is (tab s) (s .args .c .pool) (s .args .c .staker)
 
 add-requires : tie.Need-add-requires
 add-requires c κs =
@@ -105,9 +103,6 @@ add-requires c κs =
 
 sum-is : (c : tie.After-add) → let s = from (c .before .before .before) in toZ w64 (c .add .result) ≡ stakedRow (b s) (s .args .time) (call s) .stake
 sum-is c = let s = from (c .before .before .before) in c .add .ensures ∙ ap (λ (r : StakeRow). r .stake +ℤ call s .amount) (row-is (c .before))
-
-less-requires : tie.Need-less-requires
-less-requires c κs = search needs
 
 least-is : (c : tie.After-less) → let s = from (c .before .before .before .before) in c .less .result ≡ ltZ (stakedRow (b s) (s .args .time) (call s) .stake) (pos leastStake)
 least-is c = c .less .ensures ∙ ap (λ (z : ℤ). ltZ z (pos leastStake)) (sum-is (c .before))
@@ -123,7 +118,7 @@ returns-3 : tie.Need-returns-3
 returns-3 c =
     let e = passed (c .before) in
     let s = from e in
-    rungs.stake-low (b s) (s .args .time) (s .args .signer) (call s) (code-zero (e .before .before)) (most e) (sym (least-is (c .before)) ∙ c .if3 .taken)
+    rungs.turned-down _ _ _ _ (rungs.by-code (b s) (s .args .time) (s .args .signer) (call s) ∙ rw (code-zero (e .before .before), most e, sym (least-is (c .before)) ∙ c .if3 .taken))
 
 least : (c : tie.Else3) → let s = from (passed (c .before)) in ltZ (stakedRow (b s) (s .args .time) (call s) .stake) (pos leastStake) ≡ false
 least c = sym (least-is (c .before)) ∙ c .if3 .left
@@ -140,7 +135,7 @@ returns-4 : tie.Need-returns-4
 returns-4 c =
     let e = passed (c .before .before) in
     let s = from e in
-    rungs.stake-over (b s) (s .args .time) (s .args .signer) (call s) (code-zero (e .before .before)) (most e) (least (c .before)) (top-test (c .before) ∙ lt-ltb limit _ (c .if4 .taken))
+    rungs.turned-down _ _ _ _ (rungs.by-code (b s) (s .args .time) (s .args .signer) (call s) ∙ rw (code-zero (e .before .before), most e, least (c .before), top-test (c .before) ∙ lt-ltb limit _ (c .if4 .taken)))
 
 top : (c : tie.Else4) → let s = from (passed (c .before .before)) in ltZ (pos limit) (stakedRow (b s) (s .args .time) (call s) .stake) ≡ false
 top c = top-test (c .before) ∙ le-ltb limit (c .before .before .before .add .result) (c .if4 .left)
@@ -161,18 +156,12 @@ banked-is c =
     let r = read (c .before .before .before) in
     c .banked-of .ensures ∙ ap bankedAnswer (rows.due-is (tab s) (s .pre .0) (s .args .time) (call s) (s .pre .1) (stakeOf (r .read-stake .result)) (row-is r))
 
-enum-known-accrual : tie.Need-enum-known-accrual
-enum-known-accrual c = search needs
-
 to-is : (c : tie.After-accrual) → let s = here (c .before .before .before) in (c .accrual .given .0 .0 ≡ yieldDue (b s) (s .args .time) (call s)) × (ltb limit (yieldDue (b s) (s .args .time) (call s)) ≡ false)
 to-is c =
     let s = here (c .before .before .before) in
     banked-to (yieldDue (b s) (s .args .time) (call s)) (c .accrual .given .0 .0) (sym (c .accrual .given .1) ∙ banked-is (c .before .before))
 
 -- ---- room
-
-no-room-requires : tie.Need-no-room-requires
-no-room-requires c κs = search needs
 
 abbrev tested : tie.After-no-room → tie.Else4
 tested c = c .before .before .before .before .before
@@ -189,50 +178,40 @@ returns-5 c =
     let e = tested (c .before) in
     let p = passed (e .before .before) in
     let s = here e in
-    rungs.no-place (b s) (s .args .time) (s .args .signer) (call s) (code-zero (p .before .before)) (most p) (least (e .before)) (top e) (to-is (c .before .before .before) .1) (sym (room-test (c .before)) ∙ c .if5 .taken)
+    rungs.turned-down _ _ _ _ (rungs.by-code (b s) (s .args .time) (s .args .signer) (call s) ∙ rw (code-zero (p .before .before), most p, least (e .before), top e, to-is (c .before .before .before) .1, sym (room-test (c .before)) ∙ c .if5 .taken))
 
-enum-told : tie.Need-enum-told
-enum-told c = search needs
-
-returns-6 : tie.Need-returns-6
-returns-6 c =
+stake-change-requires : tie.Need-stake-change-requires
+stake-change-requires c κs =
     let e = tested (c .before) in
     let p = passed (e .before .before) in
     let s = here e in
-    let a = to-is (c .before .before .before) in
-    let d = rungs.stakes-is (b s) (s .args .time) (s .args .signer) (call s) (code-zero (p .before .before)) (most p) (least (e .before)) (top e) (a .1) (sym (room-test (c .before)) ∙ c .if5 .left) in (
-      d .0,
-      record {
-        figures = record { used-is = read (e .before .before) .before .used-stakes .ensures; stake-is = sum-is (e .before .before .before); accrual-is = a .0 };
-        done = d .1;
-      },
+    let a = to-is (c .before .before .before) in (
+      s .pre .0,
+      (
+        s .pre .1,
+        record {
+          figures = record { used-is = read (e .before .before) .before .used-stakes .ensures; stake-is = sum-is (e .before .before .before); accrual-is = a .0 };
+          done = record { some = some (p .before .before); most = most p; least = least (e .before); limits = rw (top e, a .1); room = sym (room-test (c .before)) ∙ c .if5 .left };
+        },
+      ),
     )
+
+returns-6 : tie.Need-returns-6
+returns-6 c =
+    let h = c .before in
+    let e = tested (h .before) in
+    let p = passed (e .before .before) in
+    let s = here e in
+    let w = c .stake-change .ensures in
+    let plan : plans.stake (b s) (s .args .time) (s .args .signer) (call s) ≡ staking (b s) (s .args .time) (call s) = rungs.by-code (b s) (s .args .time) (s .args .signer) (call s) ∙ rw (code-zero (p .before .before), most p, least (e .before), top e, to-is (h .before .before .before) .1, sym (room-test (h .before)) ∙ h .if5 .left) in
+    record { plan-is = w .plan-is ∙ sym plan; row-is = w .row-is; ready = w .writable }
 
 returns-7 : tie.Need-returns-7
 returns-7 c =
     let e = c .before .before .before in
     let p = passed (e .before .before) in
     let s = here e in
-    rungs.accrual-over (b s) (s .args .time) (s .args .signer) (call s) (code-zero (p .before .before)) (most p) (least (e .before)) (top e) (banked-over (yieldDue (b s) (s .args .time) (call s)) (sym (c .enum-told .given .1) ∙ banked-is (c .before .before)))
+    rungs.turned-down _ _ _ _ (rungs.by-code (b s) (s .args .time) (s .args .signer) (call s) ∙ rw (code-zero (p .before .before), most p, least (e .before), top e, banked-over (yieldDue (b s) (s .args .time) (call s)) (sym (c .enum-told .given .1) ∙ banked-is (c .before .before))))
 
 pub settle-stake-spec : {M : Type 1} → statement M
-settle-stake-spec =
-    tie.close
-    (tie.spec
-    is-paused-requires
-    staker-code-requires
-    returns
-    returns-2
-    used-stakes-requires
-    read-stake-requires
-    add-requires
-    less-requires
-    returns-3
-    returns-4
-    banked-of-requires
-    enum-known-accrual
-    no-room-requires
-    returns-5
-    enum-told
-    returns-6
-    returns-7)
+settle-stake-spec = tie.close (tie.spec is-paused-requires (λ c κs. search needs) returns returns-2 used-stakes-requires read-stake-requires add-requires (λ c κs. search needs) returns-3 returns-4 banked-of-requires (λ c. search needs) (λ c κs. search needs) returns-5 stake-change-requires (λ c. search needs) returns-6 returns-7)

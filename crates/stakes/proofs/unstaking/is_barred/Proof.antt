@@ -6,11 +6,8 @@ use borrow.Author.Needs.{needs}
 use Rattle.stakes.proofs.unstaking.is_barred.Statement.{statement}
 use Rattle.stakes.proofs.unstaking.is_barred.Tie as tie
 
-is-paused-requires : tie.Need-is-paused-requires
-is-paused-requires c κs = search needs
-
 returns : tie.Need-returns
 returns c = ap (λ (t : Bool). t && not (eqb (c .before .before .args .pool) 3)) (c .is-paused .ensures)
 
 pub is-barred-spec : {M : Type 1} → statement M
-is-barred-spec = tie.close (tie.spec is-paused-requires returns)
+is-barred-spec = tie.close (tie.spec (λ c κs. search needs) returns)

@@ -3,7 +3,8 @@ use mathlib.Core.Path.{_≡_, sym, ap, _∙_, subst⁻¹}
 use mathlib.Core.Bool.{Bool, false, not, _&&_}
 use native.Mathlib.Omega.{arith}
 use borrow.Author.Needs.{needs}
-use lib.Dec.{eqb}
+use borrow.Author.Tests.{ne-eqb}
+use lib.Dec.{ltb, eqb}
 use lib.IntN.{pos, _-ℤ_}
 use lib.Signed.{ltZ, leZ}
 use mir.Syntax.{w64}
@@ -12,12 +13,13 @@ use Rattle.rules.specs.Limits.{limit, flat}
 use Rattle.rules.specs.Terms.{bankedAnswer}
 use Rattle.rules.specs.Books.{Books, StakeRow}
 use Rattle.rules.specs.declared.StakeCall.{StakeCall}
+use Rattle.rules.specs.Stakes as plans
 use Rattle.rules.specs.Stakes.{oldStake, yieldDue, overdrawn}
 use Rattle.books.specs.Words.{Tables, tables, booksOf}
-use Rattle.books.specs.Held.{stakeOf, HeldStakes}
+use Rattle.books.specs.inner.Held.{stakeOf, HeldStakes}
 use Rattle.books.proofs.Good.{good-read, stakes-held}
 use Rattle.books.proofs.Writing.{paused-is, stake-is}
-use Rattle.stakes.specs.Staking.{askOf, stakerCode}
+use Rattle.stakes.specs.inner.Figures.{askOf, stakerCode, unstaking}
 use Rattle.books.proofs.Accruals.{banked-to, banked-over}
 use Rattle.stakes.proofs.StakeWords.{dif-fits, part-within}
 use Rattle.stakes.proofs.StakeRungs as rungs
@@ -41,10 +43,7 @@ start c = c .before .before .before .before .before
 -- ---- the first rungs
 
 is-barred-requires : tie.Need-is-barred-requires
-is-barred-requires c κs = let s = c .before .before .before in good-read (tab s) (s .pre .0) .twelve
-
-staker-code-requires : tie.Need-staker-code-requires
-staker-code-requires c κs = search needs
+is-barred-requires c κs = let s = c .before .before .before in good-read (tab s) (s .pre .0) .sized
 
 abbrev barred : tie.Start → Bool
 barred s = b s .settings .paused && not (eqb (call s .pool) flat)
@@ -55,7 +54,7 @@ code-is c =
     c .staker-code .ensures ∙ ap (λ (v : Bool). stakerCode v (s .args .signer) (call s)) (c .before .is-barred .ensures ∙ ap (λ (v : Bool). v && not (eqb (call s .pool) flat)) (paused-is (tab s)))
 
 returns : tie.Need-returns
-returns c = let s = start (c .before) in rungs.out-code-is (b s) (s .args .time) (s .args .signer) (call s) _ (code-is (c .before)) (c .if1 .taken)
+returns c = let s = start (c .before) in let e = code-is (c .before) in rungs.turned-down _ _ _ _ (rungs.by-out-code (b s) (s .args .time) (s .args .signer) (call s) ∙ rw (sym e, ne-eqb _ 0 (c .if1 .taken)))
 
 code-zero : (c : tie.Else1) → let s = start (c .before) in stakerCode (barred s) (s .args .signer) (call s) ≡ 0
 code-zero c = sym (code-is (c .before)) ∙ c .if1 .left
@@ -75,12 +74,9 @@ read-stake-requires : tie.Need-read-stake-requires
 read-stake-requires c κs = let s = from (c .before) in subst⁻¹ (HeldStakes (s .args .stakes .now)) (c .used-stakes .ensures) (stakes-held (tab s) (s .pre .0))
 
 row-is : (c : tie.After-read-stake) → let s = from (c .before .before) in stakeOf (c .read-stake .result) ≡ oldStake (b s) (call s)
-row-is c = let s = from (c .before .before) in c .read-stake .ensures ∙ stake-is (tab s) (s .args .c .pool) (s .args .c .staker .0)
+row-is c = let s = from (c .before .before) in c .read-stake .ensures ∙ stake-is (tab s) (s .args .c .pool) (s .args .c .staker)
 
 -- ---- whether the stake is enough
-
-less-requires : tie.Need-less-requires
-less-requires c κs = search needs
 
 abbrev passed : tie.After-less → tie.Else1
 passed c = c .before .before .before
@@ -93,7 +89,7 @@ returns-2 : tie.Need-returns-2
 returns-2 c =
     let e = passed (c .before) in
     let s = from e in
-    rungs.stake-short (b s) (s .args .time) (s .args .signer) (call s) (code-zero e) (sym (short-is (c .before)) ∙ c .if2 .taken)
+    rungs.turned-down _ _ _ _ (rungs.by-out-code (b s) (s .args .time) (s .args .signer) (call s) ∙ rw (code-zero e, sym (short-is (c .before)) ∙ c .if2 .taken))
 
 enough : (c : tie.Else2) → let s = from (passed (c .before)) in overdrawn (b s) (call s) ≡ false
 enough c = sym (short-is (c .before)) ∙ c .if2 .left
@@ -126,48 +122,43 @@ banked-is c =
     let r = c .before .before .before .before in
     c .banked-of .ensures ∙ ap bankedAnswer (rows.due-is (tab s) (s .pre .0) (s .args .time) (call s) (s .pre .1) (stakeOf (r .read-stake .result)) (row-is r))
 
-enum-known-accrual : tie.Need-enum-known-accrual
-enum-known-accrual c = search needs
+to-is : (c : tie.After-accrual) → let s = here (c .before .before) in (c .accrual .given .0 .0 ≡ yieldDue (b s) (s .args .time) (call s)) × (ltb limit (yieldDue (b s) (s .args .time) (call s)) ≡ false)
+to-is c =
+    let s = here (c .before .before) in
+    banked-to (yieldDue (b s) (s .args .time) (call s)) (c .accrual .given .0 .0) (sym (c .accrual .given .1) ∙ banked-is (c .before .before))
 
-enum-told : tie.Need-enum-told
-enum-told c = search needs
-
-returns-3 : tie.Need-returns-3
-returns-3 c =
+unstake-change-requires : tie.Need-unstake-change-requires
+unstake-change-requires c κs =
     let k = c .before .before .before in
     let s = here k in
     let l = k .before .before in
-    let due = yieldDue (b s) (s .args .time) (call s) in
-    let a = banked-to due (c .before .accrual .given .0 .0) (sym (c .before .accrual .given .1) ∙ banked-is k) in
-    let d = rungs.unstakes-is (b s) (s .args .time) (s .args .signer) (call s) (code-zero (passed (l .before))) (enough l) (a .1) in (
-      d .0,
-      record {
-        figures = record { used-is = l .before .before .before .used-stakes .ensures; stake-is = left-is (k .before); accrual-is = a .0 };
-        done = d .1;
-      },
+    let a = to-is (c .before) in (
+      s .pre .0,
+      (
+        s .pre .1,
+        record {
+          figures = record { used-is = l .before .before .before .used-stakes .ensures; stake-is = left-is (k .before); accrual-is = a .0 };
+          done = record { some = some (passed (l .before)); enough = enough l; limits = a .1 };
+        },
+      ),
     )
+
+returns-3 : tie.Need-returns-3
+returns-3 c =
+    let m = c .before .before in
+    let k = m .before .before in
+    let s = here k in
+    let l = k .before .before in
+    let w = c .unstake-change .ensures in
+    let plan : plans.unstake (b s) (s .args .time) (s .args .signer) (call s) ≡ unstaking (b s) (s .args .time) (call s) = rungs.by-out-code (b s) (s .args .time) (s .args .signer) (call s) ∙ rw (code-zero (passed (l .before)), enough l, to-is m .1) in
+    record { plan-is = w .plan-is ∙ sym plan; row-is = w .row-is; ready = w .writable }
 
 returns-4 : tie.Need-returns-4
 returns-4 c =
     let k = c .before .before in
     let s = here k in
     let l = k .before .before in
-    rungs.yield-over (b s) (s .args .time) (s .args .signer) (call s) (code-zero (passed (l .before))) (enough l) (banked-over (yieldDue (b s) (s .args .time) (call s)) (sym (c .enum-told .given .1) ∙ banked-is k))
+    rungs.turned-down _ _ _ _ (rungs.by-out-code (b s) (s .args .time) (s .args .signer) (call s) ∙ rw (code-zero (passed (l .before)), enough l, banked-over (yieldDue (b s) (s .args .time) (call s)) (sym (c .enum-told .given .1) ∙ banked-is k)))
 
 pub settle-unstake-spec : {M : Type 1} → statement M
-settle-unstake-spec =
-    tie.close
-    (tie.spec
-    is-barred-requires
-    staker-code-requires
-    returns
-    used-stakes-requires
-    read-stake-requires
-    less-requires
-    returns-2
-    sub-requires
-    banked-of-requires
-    enum-known-accrual
-    enum-told
-    returns-3
-    returns-4)
+settle-unstake-spec = tie.close (tie.spec is-barred-requires (λ c κs. search needs) returns used-stakes-requires read-stake-requires (λ c κs. search needs) returns-2 sub-requires banked-of-requires (λ c. search needs) unstake-change-requires (λ c. search needs) returns-3 returns-4)

@@ -4,17 +4,11 @@ use borrow.Author.Tests.{eq-eqb, ne-eqb}
 use Rattle.stakes.proofs.unstaking.yield_out.Statement.{statement}
 use Rattle.stakes.proofs.unstaking.yield_out.Tie as tie
 
-no-transfer-requires : tie.Need-no-transfer-requires
-no-transfer-requires c κs = search needs
-
 returns : tie.Need-returns
 returns c = rw (eq-eqb (c .before .before .args .due) 0 (c .before .if1 .taken)) (c .no-transfer .ensures)
-
-transfer-out-requires : tie.Need-transfer-out-requires
-transfer-out-requires c κs = search needs
 
 returns-2 : tie.Need-returns-2
 returns-2 c = rw (ne-eqb (c .before .before .args .due) 0 (c .before .if1 .left)) (c .transfer-out .ensures)
 
 pub yield-out-spec : {M : Type 1} → statement M
-yield-out-spec = tie.close (tie.spec no-transfer-requires returns transfer-out-requires returns-2)
+yield-out-spec = tie.close (tie.spec (λ c κs. search needs) returns (λ c κs. search needs) returns-2)
