@@ -1,4 +1,7 @@
-/* Lengths outside the limits: of tables, answered 2; of records, heads and answers, answered 1 with nothing written. */
+/* Lengths outside the limits: of tables, answered 2; of records, answered 1 in the code and in the answer; of heads and answers, answered 1 with
+ * nothing written. */
+#include <string.h>
+
 #include "harness.h"
 
 static const struct tables EMPTY = {.books = {[ADMIN] = 1}};
@@ -31,7 +34,19 @@ static void take_tables(uint64_t stake_rooms, uint64_t offer_rooms)
     check_tables(&lent, &EMPTY);
 }
 
-static void refuse_record(uint64_t record_bytes, uint64_t answer_words)
+/* The answer of the call before is gone. */
+static void refuse_record(uint64_t record_bytes)
+{
+    const struct answer wanted = refusal(PASUMORIP_MALFORMED);
+    about("a record of %d bytes", (int)record_bytes);
+    memset(lent.answer, 0x5a, sizeof wanted);
+    before = lent;
+    memcpy(before.answer, &wanted, sizeof wanted);
+    uint8_t code = pasumorip_apply(TABLES(&lent), lent.bytes, record_bytes, lent.answer, PASUMORIP_ANSWER_WORDS);
+    check_untouched(code, PASUMORIP_MALFORMED, &lent, &before);
+}
+
+static void refuse_answer(uint64_t record_bytes, uint64_t answer_words)
 {
     about("a record of %d bytes and an answer of %d words", (int)record_bytes, (int)answer_words);
     before = lent;
@@ -52,8 +67,9 @@ static void refuse_records_and_answers(void)
     static const uint64_t RECORDS[] = {0, 1, 47, 49}, ANSWERS[] = {0, 3, 8, 10}, TOLD[] = {0, 2, 4, 9};
     put_record(&lent, (struct call){.operation = PAUSE, .now = 9, .signer = 1});
     for (size_t each = 0; each < 4; each++) {
-        refuse_record(RECORDS[each], PASUMORIP_ANSWER_WORDS);
-        refuse_record(PASUMORIP_RECORD_BYTES, ANSWERS[each]);
+        refuse_record(RECORDS[each]);
+        refuse_answer(PASUMORIP_RECORD_BYTES, ANSWERS[each]);
+        refuse_answer(RECORDS[each], ANSWERS[each]);
         refuse_question(TOLD[each]);
     }
 }
