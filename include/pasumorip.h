@@ -1,11 +1,14 @@
 /* Pasumorip: a proved settlement engine for pools of stakes. The functions of libpasumorip.a, for C.
  *
- * The caller lends three tables of 64-bit words and keeps them; the library keeps nothing and calls nothing. Whatever the words, bytes and
- * arguments are, each function ends and answers a code. A call that answers a code other than PASUMORIP_DONE has changed no bit of the
- * tables. Tables that were lent with any words at all are tested, and refused with PASUMORIP_BAD_TABLES, never trusted.
+ * The caller lends three tables of 64-bit words and keeps them; the library keeps nothing and calls nothing.
  *
- * What a caller owes: pointers to as many elements as the length beside them says, aligned for their type, and no two of the lent parts
- * that overlap. A length of 0 still wants a pointer that is not null.
+ * What a caller owes, since no function can test it: each pointer is valid for as many elements as the length beside it says, to be read and,
+ * where it is not const, written; it is aligned for its type, and not null even where that length is 0; no two of the lent parts overlap; and
+ * nobody else uses them until the function is back.
+ *
+ * Given that, whatever the words, bytes, lengths and arguments are, each function ends and answers a code. A call that answers a code other
+ * than PASUMORIP_DONE has changed no bit of the tables. Tables that were lent with any words at all are tested, and refused with
+ * PASUMORIP_BAD_TABLES, never trusted.
  *
  * Tables. Rows come first, ascending by pool and then by number; unused rows are all zero. Pools: 0 Conservative, 1 Balanced,
  * 2 Aggressive, 3 flat. Numbers marked (signed) are in two's complement.
@@ -66,7 +69,8 @@ uint8_t pasumorip_open(uint64_t *stakes, size_t stakes_words, uint64_t *offers, 
  * other the beneficiary), 4 reserve, 5 claim (subject the offer, claim's other the lender), 6 rate (pool 3, amount the rate), 7 pause,
  * 8 unpause, 9 payout caller (subject).
  * Writes 9 words to answer: code, first, second (both signed), then for each of two transfers its kind (0 none, 1 in, 2 out), account and
- * amount. Returns the code. A record of another length, or an answer of another, is refused with MALFORMED and nothing is written. */
+ * amount. Returns the code. Every refusal writes its code, two zeros and no transfer, and so does a record of another length, which is refused
+ * with MALFORMED. An answer of another length is refused with MALFORMED too, and then nothing is written. */
 uint8_t pasumorip_apply(uint64_t *stakes, size_t stakes_words, uint64_t *offers, size_t offers_words, uint64_t *books, size_t books_words,
                         const uint8_t *record, size_t record_bytes, uint64_t *answer, size_t answer_words);
 

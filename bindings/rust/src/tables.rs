@@ -90,11 +90,11 @@ impl Tables {
         self.apply_record(&call.to_bytes())
     }
 
-    /// Makes the call that a log's record stands for. Any bytes will do: what is no call is Malformed.
+    /// Makes the call that a log's record stands for. Any bytes of any length will do: what is no call is Malformed.
     pub fn apply_record(&mut self, record: &[u8]) -> Answer {
         let mut words = [0; ANSWER_WORDS];
-        // The code stands in the words too, but for a record that is not of 48 bytes, where nothing is written.
-        words[0] = face::apply(self.lend(), record, &mut words).into();
+        // The code stands in the words too.
+        face::apply(self.lend(), record, &mut words);
         Answer::from_words(words)
     }
 

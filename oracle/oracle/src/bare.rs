@@ -8,6 +8,7 @@ use crate::module;
 use crate::operation::Operation;
 use crate::record::Record;
 use crate::tables::Tables;
+use insurance::InsuranceContract as Module;
 use soroban_sdk::Env;
 
 pub struct Bare {
@@ -35,12 +36,25 @@ impl Bare {
         module::accrued(self.env.fork(now), pool, account)
     }
 
-    /// The module tests before it writes, so a refused call leaves nothing behind.
+    /// The yield and the payout cap that the module's pool query tells, in basis points; None for the flat pool, which it does not know.
+    pub fn terms(&self, pool: u8) -> Option<(u32, u32)> {
+        module::tier(pool).map(|tier| {
+            let pool = Module::get_pool(self.env.fork(0), tier);
+            (pool.apy_bps, pool.payout_cap_bps)
+        })
+    }
+
     pub fn call(&mut self, record: &Record) -> Answer {
+        self.call_at(record, record.now)
+    }
+
+    /// The record's call at any time, since the module's clock has no last second. The module tests before it writes, so a refused call
+    /// leaves nothing behind.
+    pub fn call_at(&mut self, record: &Record, now: u64) -> Answer {
         let Some(operation) = Operation::of(record) else {
             return Answer::refusal(Code::Malformed);
         };
-        self.env.begin(record.now);
+        self.env.begin(now);
         match module::run(&self.env, record.signer, &operation) {
             Ok((first, second)) => {
                 let transfers = self.env.transfers().iter().map(|transfer| way(&self.env, transfer)).collect();

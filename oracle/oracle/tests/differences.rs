@@ -2,8 +2,8 @@
 
 mod support;
 
-use oracle::{parse_tables, Answer, Bare, Desk, Tables};
-use support::{accrued, records, HIRE, LIMIT};
+use oracle::{parse_tables, Answer, Bare, Desk, Question, Record, Tables};
+use support::{accrued, records, HIRE, LAST_TIME, LIMIT};
 
 fn fresh_tables() -> Tables {
     parse_tables("settings 1 0 0 0").expect("the tables are well written")
@@ -78,6 +78,24 @@ fn an_amount_over_its_limit_comes_before_the_registry() {
 }
 
 #[test]
+fn an_amount_over_its_limit_comes_before_the_cover() {
+    for pool in [0, 3] {
+        let claim = format!("{HIRE}claim pool={pool} offer=5 lender=9 amount={} signer=2", LIMIT + 1);
+        let (module, here) = both(&fresh_tables(), &claim);
+        assert_eq!((module.code as u8, here.code as u8), (9, 10));
+    }
+}
+
+/// Only a row far below zero can be left below the least stake by so large an amount.
+#[test]
+fn an_amount_over_its_limit_comes_before_the_least_stake() {
+    let tables = "stake 3 7 -1000000000000000 0 0\nbalances 0 0 0 -1000000000000000\nsettings 1 0 0 0";
+    let stake = format!("stake pool=3 staker=7 amount={} signer=7", LIMIT + 1);
+    let (module, here) = both(&parse_tables(tables).expect("the tables are well written"), &stake);
+    assert_eq!((module.code as u8, here.code as u8), (6, 10));
+}
+
+#[test]
 fn no_free_row() {
     let tables = "rooms 1 1\nsettings 1 0 0 0";
     let stakes = "stake pool=3 staker=7 amount=2000000 signer=7\nstake pool=0 staker=7 amount=1000000 signer=7\n";
@@ -101,18 +119,69 @@ fn accrued_below_zero_and_above_its_limit() {
     let below = tables(-1, 0);
     assert_eq!((module(&below, 315_360_000), accrued(&Desk::open(below), 2, 7, 315_360_000)), (-1, 0));
     let above = tables(1, LIMIT);
-    let question = oracle::Question::Accrued { pool: 2, account: 7, now: 315_360_000 };
+    let question = Question::Accrued { pool: 2, account: 7, now: 315_360_000 };
     assert_eq!(module(&above, 315_360_000), i128::from(LIMIT) + 1);
     assert_eq!(Desk::open(above).ask(&question).to_string(), "10 0 0\n");
 }
 
 /// The module goes on earning after the last second that document 01 knows.
 #[test]
-fn the_last_second() {
-    use support::LAST_TIME;
+fn a_query_after_the_last_second() {
     let tables = parse_tables("stake 2 7 1000000 0 0\nbalances 0 0 1000000 0\nsettings 1 0 0 0").expect("well written");
     let module = Bare::load(&tables).expect("the tables are well formed");
     assert!(module.accrued(2, 7, LAST_TIME + 400) > module.accrued(2, 7, LAST_TIME));
-    let question = oracle::Question::Accrued { pool: 2, account: 7, now: LAST_TIME + 1 };
+    let question = Question::Accrued { pool: 2, account: 7, now: LAST_TIME + 1 };
     assert_eq!(Desk::open(tables).ask(&question).to_string(), "1 0 0\n");
+}
+
+/// Each operation is done by both at the last second, and by the module alone one later.
+#[test]
+fn a_call_after_the_last_second() {
+    for pool in 0..4 {
+        let calls = format!(
+            "stake pool={pool} staker=8 amount=1000000 signer=8
+withdraw pool={pool} staker=7 amount=1 signer=7
+pay pool={pool} reply=2 invoice=5 beneficiary=9 amount=2 signer=2
+reserve pool={pool} offer=6 amount=2 signer=2
+claim pool={pool} offer=5 lender=9 amount=1 signer=2
+rate pool=3 rate=5 signer=1
+pause signer=1
+unpause signer=1
+payout_caller caller=3 signer=1"
+        );
+        let before = format!(
+            "{HIRE}stake pool={pool} staker=7 amount=9000000 signer=7\nreserve pool={pool} offer=5 amount=9 signer=2\n"
+        );
+        let calls = records(&calls);
+        assert_eq!(calls.iter().map(|call| call.operation).collect::<Vec<_>>(), (1..=9).collect::<Vec<_>>());
+        for call in calls {
+            last_second_and_one_later(&before, &call);
+        }
+    }
+}
+
+fn last_second_and_one_later(before: &str, call: &Record) {
+    let tables = fresh_tables();
+    let (mut module, mut here) = (Bare::load(&tables).expect("the tables are well formed"), Desk::open(tables));
+    for record in records(before) {
+        assert_eq!((module.call(&record).code as u8, here.call(&record).code as u8), (0, 0), "{record:?}");
+    }
+    let at = |now| Record { now, ..call.clone() };
+    let (last, later) = (at(LAST_TIME), at(LAST_TIME + 1));
+    let told = module.clone().call(&last);
+    assert_eq!(told.code as u8, 0, "{call:?}");
+    assert_eq!(here.clone().call(&last), told, "{call:?}");
+    assert_eq!(module.call_at(call, LAST_TIME + 1).code as u8, 0, "{call:?}");
+    assert_eq!(here.call(&later).to_string(), "1 0 0\n", "{call:?}");
+}
+
+/// The module's pool query tells a tier's yield and cap too; here a pool query has two numbers.
+#[test]
+fn a_pool_query_tells_no_terms() {
+    let (module, here) = (Bare::fresh(1), Desk::open(fresh_tables()));
+    let terms: Vec<_> = (0..4).map(|pool| module.terms(pool)).collect();
+    assert_eq!(terms, [Some((200, 5_000)), Some((500, 7_500)), Some((1_000, 10_000)), None]);
+    for pool in 0..4 {
+        assert_eq!(here.ask(&Question::Pool { pool }).to_string(), "0 0 0\n");
+    }
 }

@@ -102,7 +102,8 @@ fn calls_and_queries(
     Ok(())
 }
 
-/// Replays and calls that are refused whole: bad tables, and answers or progress of another length.
+/// Replays and calls that are refused whole: bad tables, and records, answers or progress of another length. Only an answer that has its length
+/// is written.
 fn refusals(words: &Words, well_formed: bool) -> Result<(), Difference> {
     let record = Record { operation: 7, signer: 1, ..Record::default() }.to_bytes();
     for progress in [&[][..], &[9], &[9, 9], &[9, 9, 9, 9]] {
@@ -113,13 +114,15 @@ fn refusals(words: &Words, well_formed: bool) -> Result<(), Difference> {
             replayed::refused(words, part, &[9, 9, 9], Code::BadTables as u8)?;
         }
     }
+    let refusal = vec![Code::Malformed as u64, 0, 0, 0, 0, 0, 0, 0, 0];
     for (record_bytes, answer_words) in [(0, 9), (47, 9), (48, 0), (48, 8), (48, 10), (0, 0)] {
         let mut lent = words.clone();
         let mut answer = vec![9; answer_words];
         let Words { stakes, offers, books } = &mut lent;
         let code = proved::apply([stakes, offers, books], &record[..record_bytes], &mut answer);
         same("a call of another length", Code::Malformed as u8, code)?;
-        same("what it has written", (words, vec![9; answer_words]), (&lent, answer))?;
+        let written = if answer_words == refusal.len() { refusal.clone() } else { vec![9; answer_words] };
+        same("what it has written", (words, written), (&lent, answer))?;
     }
     for answer_words in [0, 1, 2, 4, 9] {
         let mut answer = vec![9; answer_words];
