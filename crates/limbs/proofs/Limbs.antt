@@ -1,10 +1,15 @@
--- Laws of numbers of two limbs and of shifts, which more than one function's proof cites.
+-- Laws of halves and limbs, of numbers of two limbs and of shifts.
 use mathlib.Core.Path.{_≡_, ap, sym, _∙_}
 use Prim.Native.Nat.{ℕ, _+_, _*_, _/_, _%_, _^_, _<_}
 use native.Mathlib.Nat.{mul-mod-left, mod-lt, add-zero, lt-of-le-of-lt, le-of-lt, mul-le-mul-left, lt-of-mul-lt-mul-right, mul-div-cancel, mul-lt-mul-of-pos-right, div-lt-iff-lt-mul, div-add-mod'}
 use native.Mathlib.Omega.{arith}
-use lib.Pow.{shl-shr, shl-lt, mod-pow-add}
+use lib.Bits.{bitAnd, and-mask}
+use lib.Pow.{shl-shr, shl-lt, mod-pow-add, split}
 use lib.Arith.{digits-lt, digits-div, digits-mod}
+
+-- the halves of a limb make it
+pub halves : (v : ℕ) → v / 2 ^ 32 * 2 ^ 32 + bitAnd v 0xffff_ffff ≡ v
+halves v = rw (and-mask v 32) (split v 32)
 
 -- a shift to the left by k in a word of j + k bits keeps the low j bits
 pub shl-keeps : (n j k : ℕ) → (n * 2 ^ k) % 2 ^ (j + k) ≡ (n % 2 ^ j) * 2 ^ k
@@ -31,7 +36,7 @@ unshift S d q rest N hS e hr =
     let whole : q * d + t ≡ N = upper-is S (q * d + t) N (rest % S) (mod-lt rest hS) (omega (arith, e, div-add-mod' rest S)) in
     (sym (digits-div q ht) ∙ ap (λ (x : ℕ). x / d) whole, sym (digits-mod q ht) ∙ ap (λ (x : ℕ). x % d) whole)
 
--- what both divisions start from: the dividend h, l shifted up by s has the limbs m and k, and m is below the divisor shifted up
+-- what the division starts from: the dividend h, l shifted up by s has the limbs m and k, and m is below the divisor shifted up
 pub shifted-up : (B S h l d m k : ℕ) → 0 < S → h < d → l < B → m * B + k ≡ (h * B + l) * S → m < d * S
 shifted-up B S h l d m k hS hh hl e =
     lt-of-mul-lt-mul-right B (omega (arith, e, mul-lt-mul-of-pos-right (digits-lt {q = h} {m = d} {r = l} {c = B} hh hl) hS))

@@ -1,4 +1,4 @@
-// A number of two limbs divided by one limb, bit by bit, with the remainder.
+// A number of two limbs divided by one limb, in two digits of half a limb, with the remainder.
 ghost use mathlib.Core.Path.{_≡_};
 ghost use Prim.Native.Nat.{_+_, _*_, _/_, _%_, _^_, _≤_, _<_};
 use super::product::Wide;
@@ -35,64 +35,57 @@ pub fn shifted(n: Wide, s: u32) -> Wide
     }
 }
 
-// One bit of a quotient, and what is left.
-pub struct Bit {
-    pub bit: u64,
+// A digit of a quotient, and what it leaves of the number divided.
+pub struct Digit {
+    pub digit: u64,
     pub rest: u64,
 }
 
-// rest * 2 + bit divided by v. The doubled rest can have 65 bits: where its top bit leaves the limb, v is in it for sure, and
-// what is left after v is taken is a limb again.
-pub fn step(rest: u64, bit: u64, v: u64) -> Bit
-    requires { ⌜ (rest < v) × (bit ≤ 1) ⌝ }
-    ensures { λ r. ⌜ (r .bit * v + r .rest ≡ rest * 2 + bit) × (r .rest < v) × (r .bit ≤ 1) ⌝ }
+// The next digit: rest * 2^32 + half divided by v, whose top bit is set. The guess divides by the upper half of v alone. It is never too
+// small, and at most 2 too large: then the lower half of v takes more than is left. A guess of more than half a limb is too large for sure.
+pub fn next_digit(rest: u64, half: u64, v: u64) -> Digit
+    requires { ⌜ (2 ^ 63 ≤ v) × (rest < v) × (half < 2 ^ 32) ⌝ }
+    ensures { λ r. ⌜ (r .digit * v + r .rest ≡ rest * 2 ^ 32 + half) × (r .rest < v) × (r .digit < 2 ^ 32) ⌝ }
 {
-    let twice = (rest << 1) + bit;
-    if 0x8000_0000_0000_0000 <= rest {
-        Bit {
-            bit: 1,
-            rest: std::num::wrapping_sub_u64(twice, v),
-        }
-    } else if v <= twice {
-        Bit {
-            bit: 1,
-            rest: twice - v,
-        }
-    } else {
-        Bit {
-            bit: 0,
-            rest: twice,
-        }
+    let upper = v >> 32;
+    let guess = rest / upper;
+    let left = ((rest - guess * upper) << 32) + half;
+    let taken = guess * (v & 0xffff_ffff);
+    if taken <= left {
+        return Digit {
+            digit: guess,
+            rest: left - taken,
+        };
+    }
+    let short = taken - left;
+    if short <= v {
+        return Digit {
+            digit: guess - 1,
+            rest: v - short,
+        };
+    }
+    Digit {
+        digit: guess - 2,
+        rest: v - (short - v),
     }
 }
 
-// n / d and n % d, where the quotient is one limb. Both are shifted up until d has its top bit set; then 64 steps, each of which
-// takes the next bit of the low limb; and the remainder is shifted back.
-pub fn divide_by_bits(n: Wide, d: u64) -> Divided
-    requires { ⌜ n .high < d ⌝ }
-    ensures { λ r. ⌜ (r .quotient ≡ (n .high * 2 ^ 64 + n .low) / d) × (r .remainder ≡ (n .high * 2 ^ 64 + n .low) % d) ⌝ }
+// The same for the upper digit of a quotient, which mostly is 0: a rest below the upper half of v holds v no time, and nothing is divided.
+pub fn upper_digit(rest: u64, half: u64, v: u64) -> Digit
+    requires { ⌜ (2 ^ 63 ≤ v) × (rest < v) × (half < 2 ^ 32) ⌝ }
+    ensures { λ r. ⌜ (r .digit * v + r .rest ≡ rest * 2 ^ 32 + half) × (r .rest < v) × (r .digit < 2 ^ 32) ⌝ }
 {
-    let s = norm_shift(d);
-    let v = d << s;
-    let m = shifted(n, s);
-    let mut rest = m.high;
-    let mut low = m.low;
-    let mut quotient: u64 = 0;
-    let mut i: u32 = 0;
-    while i < 64 {
-        let t = step(rest, low >> 63, v);
-        quotient = (quotient << 1) + t.bit;
-        rest = t.rest;
-        low = low << 1;
-        i += 1;
+    if rest < v >> 32 {
+        return Digit {
+            digit: 0,
+            rest: (rest << 32) + half,
+        };
     }
-    Divided {
-        quotient,
-        remainder: rest >> s,
-    }
+    next_digit(rest, half, v)
 }
 
-// The same: a number of one limb, as most are, is divided by the machine.
+// n / d and n % d, where the quotient is one limb. A number of one limb, as most are, is divided by the machine. Else both are shifted up
+// until d has its top bit set; then a digit for each half of the low limb; and the remainder is shifted back.
 pub fn divide(n: Wide, d: u64) -> Divided
     requires { ⌜ n .high < d ⌝ }
     ensures { λ r. ⌜ (r .quotient ≡ (n .high * 2 ^ 64 + n .low) / d) × (r .remainder ≡ (n .high * 2 ^ 64 + n .low) % d) ⌝ }
@@ -103,5 +96,13 @@ pub fn divide(n: Wide, d: u64) -> Divided
             remainder: n.low % d,
         };
     }
-    divide_by_bits(n, d)
+    let s = norm_shift(d);
+    let v = d << s;
+    let m = shifted(n, s);
+    let top = upper_digit(m.high, m.low >> 32, v);
+    let bottom = next_digit(top.rest, m.low & 0xffff_ffff, v);
+    Divided {
+        quotient: (top.digit << 32) + bottom.digit,
+        remainder: bottom.rest >> s,
+    }
 }
