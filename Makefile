@@ -2,10 +2,11 @@
 # make count: docs/PROOFS.md. make fmt: the layout.
 # make oracle: the Rust over stand-ins. make vectors: the kept logs and their answers, made by it.
 # make compare [N=calls] [SEED=first] [THREADS=n]: the proved library against the oracle. make bench [N=records] [TURNS=n]: its speed.
+# make quotients [N=random] [SEED=first] [THREADS=n]: the proved multiply-and-divide against whole numbers of 128 bits.
 SHELL := /bin/bash
 .ONESHELL:
 .SHELLFLAGS := -eu -o pipefail -c
-.PHONY: run replay test long count fmt kit oracle vectors native compare bench
+.PHONY: run replay test long count fmt kit oracle vectors native compare quotients bench
 
 LOG ?= $(firstword $(wildcard examples/friday.log) vectors/sample.log)
 
@@ -52,6 +53,15 @@ compare: THREADS ?=
 compare: native
 	@cargo build --quiet --offline --release --manifest-path oracle/Cargo.toml --package compare
 	oracle/target/release/compare $(N) $(SEED) $(THREADS)
+
+quotients: N ?= 100000000
+quotients: SEED ?= 1
+quotients: THREADS ?=
+quotients:
+	@scripts/module-text
+	scripts/door > /dev/null
+	cargo build --quiet --offline --release --manifest-path oracle/Cargo.toml --package quotients
+	oracle/target/release/quotients $(N) $(SEED) $(THREADS)
 
 bench: N ?= 1000000
 bench: TURNS ?= 5

@@ -14,12 +14,9 @@ mod words;
 
 use counts::{grouped, Counts};
 use difference::Failure;
-use std::env;
+use oracle::{count_seed_threads, share_out};
 use std::process::ExitCode;
-use std::sync::atomic::{AtomicBool, AtomicU64, AtomicUsize, Ordering};
-use std::sync::mpsc::{self, RecvTimeoutError};
-use std::thread;
-use std::time::{Duration, Instant};
+use std::time::Instant;
 
 const USAGE: &str = "usage: compare CALLS [SEED [THREADS]]
   CALLS    calls in random histories, besides the short inputs
@@ -28,8 +25,6 @@ const USAGE: &str = "usage: compare CALLS [SEED [THREADS]]
 
 /// Every so many calls of histories one round of lent tables is tried.
 const CALLS_PER_LENT_ROUND: u64 = 1_000;
-
-const REPORT_EVERY: Duration = Duration::from_secs(10);
 
 /// A part of the work that stands by itself.
 enum Job {
@@ -40,13 +35,16 @@ enum Job {
 }
 
 impl Job {
-    fn run(&self, counts: &mut Counts) -> Result<(), Box<Failure>> {
+    /// Answers how many calls it had.
+    fn run(&self, counts: &mut Counts) -> Result<u64, Box<Failure>> {
+        let before = counts.calls();
         match *self {
             Job::Beginnings => beginnings::run(counts),
             Job::Short { book } => short::run(book, counts),
             Job::Lent { seed } => lent::run(seed, counts),
             Job::History { seed, most } => history::run(seed, most, counts),
-        }
+        }?;
+        Ok(counts.calls() - before)
     }
 }
 
@@ -66,17 +64,9 @@ fn jobs(calls: u64, seed: u64) -> (Vec<Job>, u64) {
 }
 
 fn main() -> ExitCode {
-    let arguments: Vec<String> = env::args().skip(1).collect();
-    let numbers: Option<Vec<u64>> = arguments.iter().map(|number| number.parse().ok()).collect();
-    let processors = thread::available_parallelism().map_or(1, |count| count.get() as u64);
-    let (calls, seed, threads) = match numbers.as_deref() {
-        Some(&[calls]) => (calls, 1, processors),
-        Some(&[calls, seed]) => (calls, seed, processors),
-        Some(&[calls, seed, threads]) if threads > 0 => (calls, seed, threads),
-        _ => {
-            eprintln!("{USAGE}");
-            return ExitCode::FAILURE;
-        }
+    let Some([calls, seed, threads]) = count_seed_threads() else {
+        eprintln!("{USAGE}");
+        return ExitCode::FAILURE;
     };
     let started = Instant::now();
     let (jobs, end) = jobs(calls, seed);
@@ -98,43 +88,12 @@ fn main() -> ExitCode {
     }
 }
 
-/// Runs the jobs, each thread taking the next; the first difference ends it.
 fn run(jobs: &[Job], threads: u64, started: Instant) -> Result<Counts, Box<Failure>> {
-    let (next, done, stop) = (AtomicUsize::new(0), AtomicU64::new(0), AtomicBool::new(false));
-    let work = || -> Result<Counts, Box<Failure>> {
-        let mut counts = Counts::default();
-        let mut told = 0;
-        while let Some(job) = jobs.get(next.fetch_add(1, Ordering::Relaxed)) {
-            if stop.load(Ordering::Relaxed) {
-                break;
-            }
-            job.run(&mut counts).inspect_err(|_| stop.store(true, Ordering::Relaxed))?;
-            done.fetch_add(counts.calls() - told, Ordering::Relaxed);
-            told = counts.calls();
-        }
-        Ok(counts)
-    };
-    thread::scope(|scope| {
-        let (finished, wait) = mpsc::channel::<()>();
-        let workers: Vec<_> = (0..threads)
-            .map(|_| {
-                let finished = finished.clone();
-                scope.spawn(move || {
-                    let _finished = finished;
-                    work()
-                })
-            })
-            .collect();
-        drop(finished);
-        // Every worker holds one end until it is through.
-        while wait.recv_timeout(REPORT_EVERY) == Err(RecvTimeoutError::Timeout) {
-            let calls = grouped(done.load(Ordering::Relaxed));
-            eprintln!("compare: {calls} calls compared, {} s, 0 differences so far", started.elapsed().as_secs());
-        }
-        let mut sum = Counts::default();
-        for worker in workers {
-            sum.add(&worker.join().expect("a worker ends by a result")?);
-        }
-        Ok(sum)
-    })
+    let counted = share_out(jobs, threads, Job::run, |calls| {
+        let (calls, seconds) = (grouped(calls), started.elapsed().as_secs());
+        eprintln!("compare: {calls} calls compared, {seconds} s, 0 differences so far");
+    })?;
+    let mut sum = Counts::default();
+    counted.iter().for_each(|counts| sum.add(counts));
+    Ok(sum)
 }

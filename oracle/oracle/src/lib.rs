@@ -16,6 +16,7 @@ mod record;
 mod rng;
 mod tables;
 mod text;
+mod workers;
 
 pub use answer::{Answer, Code, Way};
 pub use bare::Bare;
@@ -30,3 +31,4 @@ pub use record::Record;
 pub use rng::Rng;
 pub use tables::{Rooms, Tables};
 pub use text::{parse_questions, parse_tables, print_tables, read_log, write_log};
+pub use workers::{count_seed_threads, share_out};
