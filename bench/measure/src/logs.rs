@@ -5,7 +5,7 @@ use oracle::Rng;
 
 pub const ADMIN: u64 = 1;
 pub const CALLER: u64 = 2;
-const START: u64 = 1_700_000_000;
+pub const START: u64 = 1_700_000_000;
 
 /// Records before the clock is started, and those that are timed.
 pub struct Log {

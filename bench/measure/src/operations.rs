@@ -10,6 +10,8 @@ pub const ROWS: [usize; 4] = [16, 64, 256, 1_024];
 pub struct Operation {
     pub name: &'static str,
     pool: u8,
+    /// How many times a stake of 10^9 each row has.
+    scale: i64,
     /// Whether every row of the pool is read or written, so that fewer records are enough.
     walks: bool,
     write: fn(&mut Author, u8, usize),
@@ -30,10 +32,11 @@ fn any_offer(author: &mut Author, rows: usize) -> u64 {
     offer(author.below(rows / 2))
 }
 
-pub const OPERATIONS: [Operation; 9] = [
+pub const OPERATIONS: [Operation; 10] = [
     Operation {
         name: "stake, added to a row",
         pool: BALANCED,
+        scale: 1,
         walks: false,
         write: |author, pool, rows| {
             let at = author.below(rows - 1);
@@ -43,6 +46,7 @@ pub const OPERATIONS: [Operation; 9] = [
     Operation {
         name: "withdraw, a part",
         pool: BALANCED,
+        scale: 1,
         walks: false,
         write: |author, pool, rows| {
             let at = author.below(rows - 1);
@@ -52,6 +56,7 @@ pub const OPERATIONS: [Operation; 9] = [
     Operation {
         name: "stake of a new row, and all of it withdrawn",
         pool: BALANCED,
+        scale: 1,
         walks: false,
         write: |author, pool, rows| {
             let newcomer = account(author.below(rows)) + 1;
@@ -62,10 +67,24 @@ pub const OPERATIONS: [Operation; 9] = [
             }
         },
     },
-    Operation { name: "pay", pool: BALANCED, walks: true, write: |author, pool, _| author.pay(pool, 100_003) },
+    Operation {
+        name: "pay",
+        pool: BALANCED,
+        scale: 1,
+        walks: true,
+        write: |author, pool, _| author.pay(pool, 100_003),
+    },
+    Operation {
+        name: "pay, products of two limbs",
+        pool: BALANCED,
+        scale: 1_000,
+        walks: true,
+        write: |author, pool, _| author.pay(pool, 100_003_000),
+    },
     Operation {
         name: "reserve",
         pool: BALANCED,
+        scale: 1,
         walks: false,
         write: |author, pool, rows| {
             let offer = any_offer(author, rows);
@@ -75,6 +94,7 @@ pub const OPERATIONS: [Operation; 9] = [
     Operation {
         name: "claim",
         pool: BALANCED,
+        scale: 1,
         walks: true,
         write: |author, pool, rows| {
             let offer = any_offer(author, rows);
@@ -84,6 +104,7 @@ pub const OPERATIONS: [Operation; 9] = [
     Operation {
         name: "rate",
         pool: 3,
+        scale: 1,
         walks: true,
         write: |author, pool, rows| {
             let rate = 400 + author.below(rows) as i64;
@@ -93,12 +114,14 @@ pub const OPERATIONS: [Operation; 9] = [
     Operation {
         name: "unpause",
         pool: BALANCED,
+        scale: 1,
         walks: false,
         write: |author, _, _| author.call(8, 0, ADMIN, 0, 0, 0),
     },
     Operation {
         name: "malformed",
         pool: BALANCED,
+        scale: 1,
         walks: false,
         write: |author, _, _| author.call(10, 0, ADMIN, 0, 0, 0),
     },
@@ -108,8 +131,8 @@ pub const OPERATIONS: [Operation; 9] = [
 pub fn measure(operation: &Operation, rows: usize, turns: usize) -> Vec<f64> {
     let mut author = Author::new(rows as u64);
     let pool = operation.pool;
-    (0..rows - 1).for_each(|at| author.stake(pool, account(at), 1_000_000_000));
-    (0..rows / 2).for_each(|at| author.reserve(pool, offer(at), 10_000_000));
+    (0..rows - 1).for_each(|at| author.stake(pool, account(at), 1_000_000_000 * operation.scale));
+    (0..rows / 2).for_each(|at| author.reserve(pool, offer(at), 10_000_000 * operation.scale));
     let before = author.take();
     let records = if operation.walks { 200_000 / rows } else { 20_000 };
     for _ in 0..records {

@@ -20,11 +20,19 @@ pub fn per_record(prepared: &[Box<dyn Engine>], logs: &[&[u8]], turns: usize) ->
 
 /// Nanoseconds of one run of `work`, the least of the turns, each of which runs it `times` times.
 pub fn once(turns: usize, times: usize, mut work: impl FnMut()) -> f64 {
-    let mut least = f64::INFINITY;
+    let [least] = each(turns, times, [&mut |_| work()]);
+    least
+}
+
+/// The same of each work, the works taking turns. A work is told the number of its run in the turn.
+pub fn each<const N: usize>(turns: usize, times: usize, mut works: [&mut dyn FnMut(usize); N]) -> [f64; N] {
+    let mut least = [f64::INFINITY; N];
     for _ in 0..turns {
-        let started = Instant::now();
-        (0..times).for_each(|_| work());
-        least = least.min(started.elapsed().as_nanos() as f64 / times as f64);
+        for (work, least) in works.iter_mut().zip(&mut least) {
+            let started = Instant::now();
+            (0..times).for_each(&mut **work);
+            *least = least.min(started.elapsed().as_nanos() as f64 / times as f64);
+        }
     }
     least
 }
