@@ -70,7 +70,7 @@ pub fn next_digit(rest: u64, half: u64, v: u64) -> Digit
     }
 }
 
-// The same for the upper digit of a quotient, which mostly is 0: a rest below the upper half of v holds v no time, and nothing is divided.
+// The same for the upper digit of a quotient. It mostly is 0, for sure where rest is below the upper half of v: then nothing is divided.
 pub fn upper_digit(rest: u64, half: u64, v: u64) -> Digit
     requires { ⌜ (2 ^ 63 ≤ v) × (rest < v) × (half < 2 ^ 32) ⌝ }
     ensures { λ r. ⌜ (r .digit * v + r .rest ≡ rest * 2 ^ 32 + half) × (r .rest < v) × (r .digit < 2 ^ 32) ⌝ }

@@ -1,6 +1,6 @@
 //! What has been compared, by operation and code.
 
-use oracle::{Answer, Books, Code, Record, Rooms};
+use oracle::{grouped, Answer, Books, Code, Record, Rooms};
 use std::collections::BTreeMap;
 use std::fmt;
 
@@ -110,13 +110,6 @@ impl Counts {
         self.fresh += other.fresh;
         self.risks += other.risks;
     }
-}
-
-/// Digits in threes.
-pub fn grouped(number: u64) -> String {
-    let digits = number.to_string();
-    let threes: Vec<&[u8]> = digits.as_bytes().rchunks(3).rev().collect();
-    String::from_utf8(threes.join(&b',')).expect("digits")
 }
 
 fn table(f: &mut fmt::Formatter, what: &str, names: &[&str], rows: &[[u64; CODES]]) -> fmt::Result {

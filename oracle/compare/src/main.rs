@@ -12,9 +12,9 @@ mod short;
 mod shrink;
 mod words;
 
-use counts::{grouped, Counts};
+use counts::Counts;
 use difference::Failure;
-use oracle::{count_seed_threads, share_out};
+use oracle::{count_seed_threads, grouped, share_out};
 use std::process::ExitCode;
 use std::time::Instant;
 

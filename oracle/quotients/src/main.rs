@@ -9,7 +9,7 @@ mod slips;
 mod ways;
 
 use compared::{compare, Difference, PROVED};
-use oracle::{count_seed_threads, share_out, Rng};
+use oracle::{count_seed_threads, grouped, share_out, Rng};
 use std::process::ExitCode;
 use std::time::Instant;
 use ways::{Table, Ways};
@@ -75,7 +75,7 @@ fn main() -> ExitCode {
     let counts = match run(&jobs(random, seed), threads, started) {
         Ok(counts) => counts,
         Err(difference) => {
-            eprintln!("{difference}");
+            eprintln!("quotients: {difference}");
             return ExitCode::FAILURE;
         }
     };
@@ -84,7 +84,7 @@ fn main() -> ExitCode {
         return ExitCode::FAILURE;
     }
     let Counts { edges, random, edge_ways, random_ways } = counts;
-    let seconds = started.elapsed().as_secs();
+    let (edges, random, seconds) = (grouped(edges), grouped(random), started.elapsed().as_secs());
     println!("{edges} at the edges and {random} at random from seed {seed} on; {seconds} s; 0 differences\n");
     println!("| way of the division | edges | random |\n|---|---:|---:|\n{}", Table(&edge_ways, &random_ways));
     ExitCode::SUCCESS
@@ -96,7 +96,7 @@ fn run(jobs: &[Job], threads: u64, started: Instant) -> Result<Counts, Differenc
         threads,
         |job, counts: &mut Counts| counts.run(job),
         |done| {
-            let seconds = started.elapsed().as_secs();
+            let (done, seconds) = (grouped(done), started.elapsed().as_secs());
             eprintln!("quotients: {done} compared, {seconds} s, 0 differences so far");
         },
     )?;

@@ -1,5 +1,6 @@
 //! Which ways a division in half limbs can take, counted, so that a run shows that it took them all.
 
+use oracle::grouped;
 use std::fmt;
 
 const NAMES: [&str; 10] = [
@@ -71,7 +72,7 @@ pub struct Table<'a>(pub &'a Ways, pub &'a Ways);
 impl fmt::Display for Table<'_> {
     fn fmt(&self, text: &mut fmt::Formatter) -> fmt::Result {
         for (name, (left, right)) in NAMES.iter().zip(self.0 .0.iter().zip(self.1 .0)) {
-            writeln!(text, "| {name} | {left} | {right} |")?;
+            writeln!(text, "| {name} | {} | {} |", grouped(*left), grouped(right))?;
         }
         Ok(())
     }
