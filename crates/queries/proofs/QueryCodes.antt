@@ -3,11 +3,12 @@ use mathlib.Core.Bool.{Bool, true, false, cond}
 use mathlib.Core.List.{List, [], _∷_}
 use Prim.Native.Nat.{ℕ, zero, suc, _≤_}
 use native.Mathlib.Omega.{arith}
-use lib.Dec.{eqb, leb, ltb}
-use lib.IntN.{ℤ, pos}
+use lib.Dec.{eqb, leb}
+use lib.IntN.{ℤ, pos, natAbs}
 use Rattle.rules.specs.Limits.{limit, lastTime, isPool, isNumber}
+use Rattle.rules.specs.Terms.{yieldRate, accruedSum}
 use Rattle.rules.specs.Table.{all, count}
-use Rattle.rules.specs.Books.{Books, stakeAt, bankedAt, offerAt, balanceOf, unpaidOf}
+use Rattle.rules.specs.Books.{Books, stakeAt, offerAt, balanceOf, unpaidOf}
 use Rattle.rules.specs.Sharing.{sharer}
 use Rattle.rules.specs.declared.Answer.{Answer}
 use Rattle.rules.specs.Answers.{refusal, Malformed, BadTables, OverLimit}
@@ -31,8 +32,9 @@ module _ (b : Books) (pool number time : ℕ) where
   answer-coded zero = omega arith
   answer-coded (suc zero) = told-coded (isPool pool ∷ isNumber number ∷ []) (stakeAt b pool (accountNo number) .stake) (pos 0)
   answer-coded (suc (suc zero)) =
-      let sum = bankedAt b pool time (stakeAt b pool (accountNo number)) in
-      one-coded (all (leb time lastTime ∷ isPool pool ∷ isNumber number ∷ [])) _ (refusal Malformed) (one-coded (ltb limit sum) (refusal OverLimit) (told (pos sum) (pos 0)) (omega arith) (omega arith)) (omega arith)
+      let r = stakeAt b pool (accountNo number) in
+      let sum = accruedSum (yieldRate (b .settings .rate) pool) time (r .stake) (r .since) (r .accrual) in
+      one-coded (all (leb time lastTime ∷ isPool pool ∷ isNumber number ∷ [])) _ (refusal Malformed) (one-coded (leb (natAbs sum) limit) (told sum (pos 0)) (refusal OverLimit) (omega arith) (omega arith)) (omega arith)
   answer-coded (suc (suc (suc zero))) = told-coded (isPool pool ∷ []) (balanceOf b pool) (pos (unpaidOf b pool))
   answer-coded (suc (suc (suc (suc zero)))) = told-coded (isPool pool ∷ []) (pos (count (sharer pool) (b .stakes))) (pos 0)
   answer-coded (suc (suc (suc (suc (suc zero))))) =

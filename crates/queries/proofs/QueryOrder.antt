@@ -2,10 +2,9 @@
 use mathlib.Core.Path.{_≡_, refl}
 use mathlib.Core.Bool.{Bool, true, false, cond, _&&_}
 use mathlib.Core.List.{List, _∷_}
-use Prim.Native.Nat.{ℕ}
 use native.Mathlib.Omega.{arith}
 use lib.Dec.{eqb}
-use lib.IntN.{pos}
+use lib.IntN.{ℤ, pos}
 use Rattle.rules.specs.declared.Answer.{Answer}
 use Rattle.rules.specs.Table.{each, all}
 use Rattle.rules.specs.Answers.{refusal, Malformed, BadTables, OverLimit}
@@ -51,6 +50,6 @@ with-first true fields = refl
 with-first false fields = refl
 
 -- an accrual is never told as malformed
-pub accrued-code : (over : Bool) (n : ℕ) → eqb ((cond over (refusal OverLimit) (told (pos n) (pos 0))) .code) Malformed ≡ false
-accrued-code true n = refl
-accrued-code false n = refl
+pub accrued-code : (within : Bool) (z : ℤ) → eqb ((cond within (told z (pos 0)) (refusal OverLimit)) .code) Malformed ≡ false
+accrued-code true z = refl
+accrued-code false z = refl

@@ -4,34 +4,33 @@ use mathlib.Core.Bool.{Bool, true, false, cond}
 use mathlib.Core.List.{List, [], _∷_}
 use Prim.Native.Nat.{ℕ, suc, _+_, _-_, _^_, _≤_, _<_}
 use native.Mathlib.Omega.{arith}
-use lib.Dec.{ltb}
-use lib.IntN.{ℤ, pos}
+use lib.Dec.{leb}
+use lib.IntN.{ℤ, pos, natAbs}
 use lib.ListN.{length, getD}
 use mir.Syntax.{w64}
 use mir.Val.{toZ}
 use mir.ValLaws.{toZ-pos}
-use borrow.Author.Tests.{ltb-false}
-use Rattle.rules.specs.Limits.{limit, lastTime, flat, twoTo64}
-use Rattle.rules.specs.Terms.{yieldRate, bankAccruedYield, bankedAnswer}
-use Rattle.rules.specs.declared.terms.Banked.{Banked}
-use Rattle.rules.specs.declared.terms.Banked.the-variants as over
-use Rattle.rules.specs.declared.terms.Banked.the-variants.{To}
+use Rattle.rules.specs.Limits.{limit, lastTime, greatestRate, twoTo64}
+use Rattle.rules.specs.Terms.{yieldRate, accruedSum}
+use Rattle.rules.specs.inner.Accrued.{accruedAnswer}
+use Rattle.rules.specs.declared.terms.Accrued.{Accrued}
+use Rattle.rules.specs.declared.terms.Accrued.the-variants.{Sum, Beyond}
 use Rattle.rules.specs.Table.{count}
-use Rattle.rules.specs.Books.{StakeRow, OfferRow, balanceOf, unpaidOf, stakeAt, offerAt, bankedAt}
+use Rattle.rules.specs.Books.{StakeRow, OfferRow, balanceOf, unpaidOf, stakeAt, offerAt}
 use Rattle.rules.specs.Sharing.{sharer}
 use Rattle.rules.specs.declared.Account.{Account}
 use Rattle.rules.specs.declared.Offer.{Offer}
 use Rattle.rules.specs.Answers.{refusal, OverLimit}
 use Rattle.rules.specs.Queries.{told}
+use Rattle.rules.proofs.Accrued.{sum-read, beyond-read}
+use Rattle.rules.proofs.Ranges.{rate-most}
 use Rattle.rules.proofs.Writes.{old-stake, old-offer}
 use Rattle.books.specs.Layout.{stakeWidth, offerWidth, pools, unpaidWords, rateWord}
 use Rattle.books.specs.Tables.{rowsFrom, usedOf}
 use Rattle.books.specs.Words.{Tables, stakeRowAt, booksOf, goodTables}
-use Rattle.books.specs.inner.Banking.{Bankable}
 use Rattle.books.specs.inner.Held.{stakeOf, stakeFor, offerOf, offerFor, HeldStakes, HeldOffers}
 use Rattle.books.specs.declared.stakes.Stake.{Stake}
 use Rattle.books.specs.declared.offers.OfferLine.{OfferLine}
-use Rattle.books.proofs.Accruals.{banked-to, banked-over}
 use Rattle.books.proofs.Lists.{rows-before, rows-done}
 use Rattle.books.proofs.Good.{good-read, good-formed, stakes-held, offers-held, good-unpaid}
 use Rattle.books.proofs.Writing.{balance-is, unpaid-is, rate-is, stake-is, offer-is, stakes-are}
@@ -113,30 +112,35 @@ module _ (t : Tables) (g : goodTables t ≡ true) where
         let o = old-offer (booksOf t) (good-formed t g .offer-rows) pool offer word in
         ap₂ (λ (z : ℤ) (n : ℕ). told z (pos n)) (small (row .reserved) (omega (arith, reserved-is, o .most)) ∙ ap pos reserved-is) paid-is
 
-  -- an accrual
-  module _ (time pool : ℕ) (account : Account) (word : account .0 < twoTo64) (row : Stake) (e : stakeOf row ≡ stakeFor pool account (t .stakes)) where
-    old-is : stakeOf row ≡ stakeAt (booksOf t) pool account
-    old-is = e ∙ stake-is t pool account
+  -- a row that is read, and the rate that it earns at
+  pub record Earning (pool : ℕ) (account : Account) : Type 0 where
+    pub row : Stake
+    pub found : stakeOf row ≡ stakeFor pool account (t .stakes)
+    pub flat-rate : ℕ
+    pub of-books : flat-rate ≡ getD (t .books) rateWord 0
+    pub rate : ℕ
+    pub of-pool : rate ≡ yieldRate flat-rate pool
 
-    pub bankable : time ≤ lastTime → pool ≤ flat → Bankable (t .books) pool time (row .accrual)
-    bankable p q = record {
-      sized = good-read t g .sized;
-      rate = omega (arith, rate-is t, good-formed t g .rate-most);
-      pool-is = q;
-      time-is = p;
-      accrued = omega (arith, ap (λ (x : StakeRow). x .accrual) old-is, old-stake (booksOf t) (good-formed t g) pool account word .accrued);
-    }
+  -- what it shows as accrued
+  module _ (time pool : ℕ) (account : Account) (x : Earning pool account) where
+    row-of : stakeOf (x .row) ≡ stakeAt (booksOf t) pool account
+    row-of = x .found ∙ stake-is t pool account
 
-    -- what is told of it: the sum where it is within its limit
-    module _ (b : Banked) (q : b ≡ bankedAnswer (bankAccruedYield (yieldRate (getD (t .books) rateWord 0) pool) time (toZ w64 (row .stake)) (row .since) (row .accrual))) where
-      banked-is : b ≡ bankedAnswer (bankedAt (booksOf t) pool time (stakeAt (booksOf t) pool account))
-      banked-is = q ∙ ap₂ (λ (n : ℕ) (x : StakeRow). bankedAnswer (bankAccruedYield (yieldRate n pool) time (x .stake) (x .since) (x .accrual))) (rate-is t) old-is
+    pub summable : account .0 < twoTo64 → time ≤ lastTime → (x .rate ≤ greatestRate) × (time ≤ lastTime) × (x .row .accrual ≤ limit)
+    summable word h =
+        let accrued = ap (λ (r : StakeRow). r .accrual) row-of in
+        (omega (arith, x .of-pool, rate-most (x .flat-rate) pool (omega (arith, x .of-books, rate-is t, good-formed t g .rate-most))), h, omega (arith, accrued, old-stake (booksOf t) (good-formed t g) pool account word .accrued))
 
-      pub accrued-told : (sum : ℕ) → b ≡ To sum → told (toZ w64 sum) (pos 0) ≡ (let n = bankedAt (booksOf t) pool time (stakeAt (booksOf t) pool account) in cond (ltb limit n) (refusal OverLimit) (told (pos n) (pos 0)))
-      accrued-told sum k =
-          let n : ℕ = bankedAt (booksOf t) pool time (stakeAt (booksOf t) pool account) in
-          let p = banked-to n sum (sym k ∙ banked-is) in
-          rw (p .1, p .0) (ap (λ (x : ℤ). told x (pos 0)) (small n (omega (arith, ltb-false limit n (p .1)))))
+    abbrev shown : ℤ
+    shown = let r = stakeAt (booksOf t) pool account in accruedSum (yieldRate (booksOf t .settings .rate) pool) time (r .stake) (r .since) (r .accrual)
 
-      pub accrued-over : b ≡ over.OverLimit → refusal OverLimit ≡ (let n = bankedAt (booksOf t) pool time (stakeAt (booksOf t) pool account) in cond (ltb limit n) (refusal OverLimit) (told (pos n) (pos 0)))
-      accrued-over k = rw (banked-over (bankedAt (booksOf t) pool time (stakeAt (booksOf t) pool account)) (sym k ∙ banked-is))
+    -- what is told of it: the sum where it is within its limits
+    module _ (a : Accrued) (h : a ≡ accruedAnswer (accruedSum (x .rate) time (toZ w64 (x .row .stake)) (x .row .since) (x .row .accrual))) where
+      answer-is : a ≡ accruedAnswer shown
+      answer-is = h ∙ ap₂ (λ (n : ℕ) (r : StakeRow). accruedAnswer (accruedSum n time (r .stake) (r .since) (r .accrual))) (x .of-pool ∙ ap (λ (n : ℕ). yieldRate n pool) (x .of-books ∙ rate-is t)) row-of
+
+      pub accrued-told : (n : ℕ) → a ≡ Sum n → told (toZ w64 n) (pos 0) ≡ cond (leb (natAbs shown) limit) (told shown (pos 0)) (refusal OverLimit)
+      accrued-told n f = let p = sum-read shown n (sym f ∙ answer-is) in rw (p .0, p .1)
+
+      pub accrued-over : a ≡ Beyond → refusal OverLimit ≡ cond (leb (natAbs shown) limit) (told shown (pos 0)) (refusal OverLimit)
+      accrued-over f = rw (beyond-read shown (sym f ∙ answer-is))

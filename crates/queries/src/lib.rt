@@ -3,8 +3,8 @@ mod asking;
 
 pub use asking::ask;
 use rules::Account;
+use rules::Accrued;
 use rules::Answer;
-use rules::Banked;
 use rules::Offer;
 use rules::codes::BAD_TABLES;
 use rules::codes::MALFORMED;
@@ -78,7 +78,7 @@ pub fn get_stake(
     tell(row.stake, 0)
 }
 
-// An account's accrual in a pool: banked, and running at a time.
+// An account's accrued yield in a pool at a time: banked and running together, signed.
 pub fn accrued_yield(
     stakes: &[u64],
     offers: &[u64],
@@ -100,9 +100,10 @@ pub fn accrued_yield(
     }
     let used = books::used_stakes(stakes);
     let row = books::read_stake(stakes, used, pool, account);
-    match books::banked_of(books, row, pool, time) {
-        Banked::To(sum) => tell(sum, 0),
-        Banked::OverLimit => refuse(OVER_LIMIT),
+    let rate = rules::yield_rate(books::rate(books), pool);
+    match rules::accrued_sum(rate, time, row.stake, row.since, row.accrual) {
+        Accrued::Sum(sum) => tell(sum, 0),
+        Accrued::Beyond => refuse(OVER_LIMIT),
     }
 }
 

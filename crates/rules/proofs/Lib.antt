@@ -1,4 +1,4 @@
--- Laws of one call, and of the functions that need no tables (`Tiers`, `Yields`, `Banked`). `Figures`, `Order`, `Guards` and `Worked` prove document 01's own figures and warnings (specs); the others hold of every call.
+-- Laws of one call, and of the functions that need no tables (`Tiers`, `Yields`, `Banked`, `Accrued`). `Figures`, `Order`, `Guards` and `Worked` prove document 01's own figures and warnings (specs), `Accrued` request W-204's; the others hold of every call.
 pub mod Figures
 pub mod Order
 pub mod CodeRange
@@ -23,5 +23,6 @@ pub mod Tiers
 pub mod Ranges
 pub mod Yields
 pub mod Banked
+pub mod Accrued
 pub mod Bounds
 pub mod Refusals

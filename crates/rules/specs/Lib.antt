@@ -19,6 +19,7 @@ pub mod Refusals
 pub mod Samples
 pub mod Figures
 pub mod Slips
+pub mod AccruedShown
 pub mod Order
 pub mod Worked
 pub mod inner

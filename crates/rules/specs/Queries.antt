@@ -2,11 +2,12 @@
 use mathlib.Core.Bool.{Bool, cond}
 use mathlib.Core.List.{List, [], _∷_}
 use Prim.Native.Nat.{ℕ}
-use lib.Dec.{ltb, leb}
-use lib.IntN.{ℤ, pos}
+use lib.Dec.{leb}
+use lib.IntN.{ℤ, pos, natAbs}
 use Rattle.rules.specs.Limits.{limit, lastTime, isPool, isNumber}
+use Rattle.rules.specs.Terms.{yieldRate, accruedSum}
 use Rattle.rules.specs.Table.{all, count}
-use Rattle.rules.specs.Books.{Books, stakeAt, bankedAt, offerAt, balanceOf, unpaidOf}
+use Rattle.rules.specs.Books.{Books, stakeAt, offerAt, balanceOf, unpaidOf}
 use Rattle.rules.specs.Sharing.{sharer}
 use Rattle.rules.specs.Calls.{Account, Offer, Answer}
 use Rattle.rules.specs.Answers.{refusal, done, noTransfer, Malformed, OverLimit}
@@ -23,12 +24,12 @@ asked fields a = cond (all fields) a (refusal Malformed)
 unfoldable pub getStake : Books → ℕ → Account → Answer
 getStake b pool account = asked (isPool pool ∷ isNumber (account .0) ∷ []) (told (stakeAt b pool account .stake) (pos 0))
 
--- accrued_yield, accrued_tier_yield: "banked plus running yield for a stake above 0; banked alone otherwise", "or 10 for an accrual
--- sum above 10^15"
+-- accrued_yield, accrued_tier_yield. W-204: "let the query answer a signed sum within plus or minus 10^15, else OverLimit"
 unfoldable pub accruedYield : Books → ℕ → ℕ → Account → Answer
 accruedYield b now pool account =
-    let sum = bankedAt b pool now (stakeAt b pool account) in
-    asked (leb now lastTime ∷ isPool pool ∷ isNumber (account .0) ∷ []) (cond (ltb limit sum) (refusal OverLimit) (told (pos sum) (pos 0)))
+    let r = stakeAt b pool account in
+    let sum = accruedSum (yieldRate (b .settings .rate) pool) now (r .stake) (r .since) (r .accrual) in
+    asked (leb now lastTime ∷ isPool pool ∷ isNumber (account .0) ∷ []) (cond (leb (natAbs sum) limit) (told sum (pos 0)) (refusal OverLimit))
 
 -- get_pool, get_pool_total: "A pool query answers balance and unpaid reserved sum"
 unfoldable pub getPool : Books → ℕ → Answer

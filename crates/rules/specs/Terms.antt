@@ -1,9 +1,9 @@
--- A pool's terms and what they come to: yield rate, payout cap, risk, yield and banking.
+-- A pool's terms and what they come to: yield rate, payout cap, risk, yield, banking and what is shown as accrued.
 use mathlib.Core.Bool.{Bool, cond}
 use mathlib.Core.List.{List, [], _∷_}
 use Prim.Native.Nat.{ℕ, _+_, _*_, _-_, _/_, _^_, min}
 use lib.Dec.{ltb, leb, eqb}
-use lib.IntN.{ℤ, pos, natAbs}
+use lib.IntN.{ℤ, pos, natAbs, _+ℤ_}
 use lib.ListN.{getD}
 use lib.Signed.{leZ}
 use mir.Syntax.{w64}
@@ -58,3 +58,8 @@ bankAccruedYield rate now stake since accrual = accrual + up (computeYield stake
 -- an accrual as the function `bank_accrued_yield` answers it: "an accrual within 0 to 10^15", or that it would pass its limit
 abbrev pub bankedAnswer : ℕ → Banked
 bankedAnswer accrual = cond (leb accrual limit) (To accrual) OverLimit
+
+-- accrued_yield, accrued_tier_yield. W-204: "The Rust adds the running yield there too, negative and truncated toward zero, so the sum can fall
+-- below zero". A stake of 0 has a running yield of 0
+abbrev pub accruedSum : ℕ → ℕ → ℤ → ℕ → ℕ → ℤ
+accruedSum rate now stake since banked = pos banked +ℤ computeYield stake rate (elapsed since now)

@@ -1,10 +1,12 @@
-// What needs no tables: the terms of a pool, the cap, the yield and risk.
+// What needs no tables: the terms of a pool, the cap, the yield, banked and as accrued, and risk.
 ghost use mathlib.Core.Path.{_≡_};
 ghost use Prim.Native.Nat.{_*_, _≤_, _<_, _^_};
+ghost use lib.IntN.{pos, _+ℤ_};
 ghost use lib.ListN.{getD};
 ghost use mir.Syntax.{w64};
 ghost use mir.Val.{toZ};
-ghost use Rattle.rules.specs.Terms.{tierParameters, yieldRate, capped, assessRisk, computeYield, point, yieldAnswer, elapsed, bankAccruedYield, bankedAnswer};
+ghost use Rattle.rules.specs.Terms.{tierParameters, yieldRate, capped, assessRisk, computeYield, point, yieldAnswer, elapsed, bankAccruedYield, bankedAnswer, accruedSum};
+ghost use Rattle.rules.specs.inner.Accrued.{accruedAnswer};
 ghost use Rattle.rules.specs.Limits.{limit, lastTime, greatestRate, pools, flat};
 use crate::limits::AGGRESSIVE;
 use crate::limits::FLAT;
@@ -50,6 +52,12 @@ pub enum Yield {
 pub enum Banked {
     To(u64),
     OverLimit,
+}
+
+// Banked and running yield together as a signed word, or that they lie beyond the limit.
+pub enum Accrued {
+    Sum(u64),
+    Beyond,
 }
 
 // The terms of a tier.
@@ -128,6 +136,33 @@ pub fn bank_accrued_yield(rate: u64, time: u64, stake: u64, since: u64, accrual:
             }
         }
         Yield::TooLarge => Banked::OverLimit,
+    }
+}
+
+// An accrual and a running yield added up. `running` is a signed word.
+fn accrued_with(accrual: u64, running: u64) -> Accrued
+    requires { ⌜ accrual ≤ limit ⌝ }
+    ensures { λ r. ⌜ r ≡ accruedAnswer (pos accrual +ℤ toZ w64 running) ⌝ }
+{
+    if whole::less(LIMIT - accrual, running) {
+        return Accrued::Beyond;
+    }
+    let sum = whole::add(accrual, running);
+    if LIMIT < whole::magnitude(sum) {
+        return Accrued::Beyond;
+    }
+    Accrued::Sum(sum)
+}
+
+// What a stake shows as accrued at a time: its accrual and its running yield, which is negative for a stake below zero. `stake` is a signed word.
+pub fn accrued_sum(rate: u64, time: u64, stake: u64, since: u64, accrual: u64) -> Accrued
+    requires { ⌜ (rate ≤ greatestRate) × (time ≤ lastTime) × (accrual ≤ limit) ⌝ }
+    ensures { λ r. ⌜ r ≡ accruedAnswer (accruedSum rate time (toZ w64 stake) since accrual) ⌝ }
+{
+    let seconds = elapsed_secs(since, time);
+    match compute_yield(stake, rate, seconds) {
+        Yield::Word(running) => accrued_with(accrual, running),
+        Yield::TooLarge => Accrued::Beyond,
     }
 }
 

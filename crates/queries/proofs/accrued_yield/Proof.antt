@@ -1,25 +1,26 @@
--- `accrued_yield` meets its contract: the gate, then what banking the row that is found answers.
+-- `accrued_yield` meets its contract: the gate, then what the row that is found shows at its pool's rate.
 use mathlib.Core.Path.{_≡_, sym, ap, ap₂, _∙_}
 use mathlib.Core.Bool.{Bool, false, cond, _&&_}
 use mathlib.Core.List.{List, [], _∷_}
-use Prim.Native.Nat.{ℕ, _<_}
+use Prim.Native.Nat.{_<_}
 use native.Mathlib.Omega.{arith}
-use lib.IntN.{pos}
-use lib.Dec.{eqb, leb, ltb}
+use lib.IntN.{ℤ, pos, natAbs}
+use lib.Dec.{eqb, leb}
 use borrow.Author.Needs.{needs}
 use borrow.Author.Tests.{leb-true}
 use Rattle.rules.specs.declared.Answer.{Answer}
 use Rattle.rules.specs.Table.{all}
 use Rattle.rules.specs.Answers.{refusal, Malformed, OverLimit}
 use Rattle.rules.specs.Limits.{limit, lastTime, twoTo64, isPool, isNumber}
-use Rattle.rules.specs.Books.{stakeAt, bankedAt}
+use Rattle.rules.specs.Terms.{yieldRate, accruedSum}
+use Rattle.rules.specs.Books.{stakeAt}
 use Rattle.rules.specs.Queries.{told, accruedYield}
 use Rattle.rules.proofs.Tests.{nth, pool-read}
 use Rattle.books.specs.Words.{Tables, tables, booksOf}
 use Rattle.books.proofs.Good.{good-read}
 use Rattle.queries.specs.inner.Gate.{gateCode}
 use Rattle.queries.proofs.QueryOrder.{Open, open-read, gate-answers, gate-refuses, with-first, accrued-code}
-use Rattle.queries.proofs.QueryRows.{stakes-found, bankable, accrued-told, accrued-over}
+use Rattle.queries.proofs.QueryRows.{stakes-found, Earning, summable, accrued-told, accrued-over}
 use Rattle.queries.proofs.accrued_yield.Statement.{statement}
 use Rattle.queries.proofs.accrued_yield.Tie as tie
 
@@ -33,11 +34,14 @@ given c = tables (c .args .stakes .now) (c .args .offers .now) (c .args .books .
 abbrev fields : tie.Start → List Bool
 fields c = leb (c .args .time) lastTime ∷ isPool (c .args .pool) ∷ isNumber (c .args .account .0) ∷ []
 
-abbrev sum : tie.Start → ℕ
-sum c = let b = booksOf (given c) in bankedAt b (c .args .pool) (c .args .time) (stakeAt b (c .args .pool) (c .args .account))
+abbrev sum : tie.Start → ℤ
+sum c =
+    let b = booksOf (given c) in
+    let r = stakeAt b (c .args .pool) (c .args .account) in
+    accruedSum (yieldRate (b .settings .rate) (c .args .pool)) (c .args .time) (r .stake) (r .since) (r .accrual)
 
 abbrev answer : tie.Start → Answer
-answer c = cond (ltb limit (sum c)) (refusal OverLimit) (told (pos (sum c)) (pos 0))
+answer c = cond (leb (natAbs (sum c)) limit) (told (sum c) (pos 0)) (refusal OverLimit)
 
 code-is : (c : tie.After-gate) → c .gate .result ≡ gateCode (given (st c)) (all (fields (st c)))
 code-is c = c .gate .ensures ∙ ap (gateCode (given (st c))) (ap₂ (λ (x y : Bool). x && y) (c .before .before .is-time .ensures) (c .before .is-key .ensures) ∙ with-first _ _)
@@ -49,7 +53,7 @@ word : (c : tie.Start) → c .args .account .0 < twoTo64
 word c = omega arith
 
 code : (c : tie.Start) → eqb (answer c .code) Malformed ≡ false
-code c = accrued-code (ltb limit (sum c)) (sum c)
+code c = accrued-code (leb (natAbs (sum c)) limit) (sum c)
 
 returns : tie.Need-returns
 unfolding accruedYield
@@ -64,39 +68,59 @@ used-stakes-requires c κs = good-read _ (opened c .good) .stakes-tidy
 read-stake-requires : tie.Need-read-stake-requires
 read-stake-requires c κs = stakes-found _ (opened (c .before) .good) _ (c .used-stakes .ensures)
 
-banked-of-requires : tie.Need-banked-of-requires
-banked-of-requires c κs =
-    let e = c .before .before in
-    let s = st (e .before) in
+rate-requires : tie.Need-rate-requires
+rate-requires c κs = good-read _ (opened (c .before .before) .good) .sized
+
+yield-rate-requires : tie.Need-yield-rate-requires
+yield-rate-requires c κs =
+    let e = c .before .before .before in
+    omega (arith, pool-read (st (e .before) .args .pool) (nth _ (opened e .met) 1))
+
+-- where the rate is known: the way there, and what is known of the row
+abbrev past : tie.After-yield-rate → tie.Else1
+past y = y .before .before .before .before
+
+abbrev entry : tie.After-yield-rate → tie.Start
+entry y = st (past y .before)
+
+abbrev earning : (y : tie.After-yield-rate) → Earning (given (entry y)) (opened (past y) .good) (entry y .args .pool) (entry y .args .account)
+earning y =
+    let f = y .before in
+    let r = f .before .read-stake in
+    record { row = r .result; found = r .ensures; flat-rate = f .rate .result; of-books = f .rate .ensures; rate = y .yield-rate .result; of-pool = y .yield-rate .ensures }
+
+accrued-sum-requires : tie.Need-accrued-sum-requires
+accrued-sum-requires y κs =
+    let s = entry y in
     let a = s .args in
-    let f = nth _ (opened e .met) in
-    bankable (given s) (opened e .good) (a .time) (a .pool) (a .account) (word s) (c .read-stake .result) (c .read-stake .ensures) (leb-true (a .time) lastTime (f 0)) (pool-read (a .pool) (f 1))
+    let o = opened (past y) in
+    summable (given s) (o .good) (a .time) (a .pool) (a .account) (earning y) (word s) (leb-true (a .time) lastTime (nth _ (o .met) 0))
 
 returns-2 : tie.Need-returns-2
 unfolding accruedYield
 returns-2 c =
     let i = c .before .before in
     let b = i .before .before in
-    let r = b .before in
-    let e = r .before .before in
-    let s = st (e .before) in
+    let y = b .before in
+    let s = entry y in
     let a = s .args in
+    let o = opened (past y) in
     c .tell .ensures
-    ∙ accrued-told (given s) (opened e .good) (a .time) (a .pool) (a .account) (word s) (r .read-stake .result) (r .read-stake .ensures) (b .banked-of .result) (b .banked-of .ensures) (i .sum .given .0 .0) (i .sum .given .1)
-    ∙ gate-answers (given s) (answer s) (code s) (fields s) (opened e)
+    ∙ accrued-told (given s) (o .good) (a .time) (a .pool) (a .account) (earning y) (b .accrued-sum .result) (b .accrued-sum .ensures) (i .sum .given .0 .0) (i .sum .given .1)
+    ∙ gate-answers (given s) (answer s) (code s) (fields s) o
 
 returns-3 : tie.Need-returns-3
 unfolding accruedYield
 returns-3 c =
     let i = c .before in
     let b = i .before .before in
-    let r = b .before in
-    let e = r .before .before in
-    let s = st (e .before) in
+    let y = b .before in
+    let s = entry y in
     let a = s .args in
+    let o = opened (past y) in
     c .refuse2 .ensures
-    ∙ accrued-over (given s) (opened e .good) (a .time) (a .pool) (a .account) (word s) (r .read-stake .result) (r .read-stake .ensures) (b .banked-of .result) (b .banked-of .ensures) (i .enum-told .given .1)
-    ∙ gate-answers (given s) (answer s) (code s) (fields s) (opened e)
+    ∙ accrued-over (given s) (o .good) (a .time) (a .pool) (a .account) (earning y) (b .accrued-sum .result) (b .accrued-sum .ensures) (i .enum-told .given .1)
+    ∙ gate-answers (given s) (answer s) (code s) (fields s) o
 
 pub accrued-yield-spec : {M : Type 1} → statement M
 accrued-yield-spec =
@@ -109,7 +133,9 @@ accrued-yield-spec =
     returns
     used-stakes-requires
     read-stake-requires
-    banked-of-requires
+    rate-requires
+    yield-rate-requires
+    accrued-sum-requires
     (λ c. search needs)
     (λ c κs. search needs)
     (λ c. search needs)
