@@ -74,10 +74,11 @@ uint8_t pasumorip_open(uint64_t *stakes, size_t stakes_words, uint64_t *offers, 
 uint8_t pasumorip_apply(uint64_t *stakes, size_t stakes_words, uint64_t *offers, size_t offers_words, uint64_t *books, size_t books_words,
                         const uint8_t *record, size_t record_bytes, uint64_t *answer, size_t answer_words);
 
-/* One question. kind 1: an account's stake in a pool. 2: its accrual at a time. 3: a pool's balance and unpaid reserved sum. 4: its number
- * of stakers. 5: what is reserved for an offer in a pool, and what of it is paid. `number` is the account or the offer; fields that a kind
- * does not use are 0. Writes 3 words to answer: code, first, second (both signed). Returns the code; an answer of another length is refused
- * with MALFORMED and nothing is written. */
+/* One question. kind 1: an account's stake in a pool. 2: its accrued yield at a time, banked and running together, which is below zero where
+ * a stake below zero has run long enough; beyond plus or minus 10^15 it is refused with OVER_LIMIT. 3: a pool's balance and unpaid reserved
+ * sum. 4: its number of stakers. 5: what is reserved for an offer in a pool, and what of it is paid. `number` is the account or the offer;
+ * fields that a kind does not use are 0. Writes 3 words to answer: code, first, second (both signed). Returns the code; an answer of another
+ * length is refused with MALFORMED and nothing is written. */
 uint8_t pasumorip_query(const uint64_t *stakes, size_t stakes_words, const uint64_t *offers, size_t offers_words, const uint64_t *books,
                         size_t books_words, uint64_t kind, uint64_t pool, uint64_t number, uint64_t time, uint64_t *answer,
                         size_t answer_words);

@@ -16,7 +16,10 @@ static const struct { struct question question; uint64_t first, second; } ANSWER
     {{ACCRUED, BALANCED, 7, 200 + YEAR}, 150000, 0},
     {{ACCRUED, BALANCED, 9, LAST_SECOND}, 40, 0},
     {{ACCRUED, AGGRESSIVE, 7, LAST_SECOND}, 0, 0},
-    {{ACCRUED, FLAT, 7, LAST_SECOND}, 6, 0},
+    {{ACCRUED, FLAT, 7, 300}, 6, 0},
+    {{ACCRUED, FLAT, 7, 299}, 6, 0},
+    {{ACCRUED, FLAT, 7, 0}, 6, 0},
+    {{ACCRUED, FLAT, 7, LAST_SECOND}, 6 - 65, 0},
     {{ACCRUED, FLAT, 8, 300 + YEAR}, 30000, 0},
     {{POOL, CONSERVATIVE, 0, 0}, 2000000, 0},
     {{POOL, BALANCED, 0, 0}, 3000000, 500000},
@@ -80,6 +83,50 @@ static void ask_at_the_limit(void)
     ask(&lent, (struct question){ACCRUED, AGGRESSIVE, 7, 102}, PASUMORIP_OVER_LIMIT, 0, 0);
 }
 
+/* Code and sum at a time, of accounts in a pool that earns 500. */
+static const struct { uint64_t account, time, code, sum; } BELOW_ZERO[] = {
+    {1, 0, PASUMORIP_DONE, 0},
+    {1, 630, PASUMORIP_DONE, 0},
+    {1, 631, PASUMORIP_DONE, -1},
+    {2, 630, PASUMORIP_DONE, 5},
+    {2, 631, PASUMORIP_DONE, 4},
+    {2, 3784, PASUMORIP_DONE, 0},
+    {2, 3785, PASUMORIP_DONE, -1},
+    {3, 999, PASUMORIP_DONE, 5},
+    {3, 1000 + 630, PASUMORIP_DONE, 5},
+    {3, 1000 + 631, PASUMORIP_DONE, 4},
+    {4, 0, PASUMORIP_DONE, 5},
+    {4, 631, PASUMORIP_DONE, 5},
+    {4, LAST_SECOND, PASUMORIP_DONE, 5},
+    {5, 20 * YEAR, PASUMORIP_DONE, -LARGEST},
+    {5, 20 * YEAR + 1, PASUMORIP_OVER_LIMIT, 0},
+    {5, LAST_SECOND, PASUMORIP_OVER_LIMIT, 0},
+    {6, 20 * YEAR + 1, PASUMORIP_DONE, -LARGEST},
+    {7, 20 * YEAR + 1, PASUMORIP_OVER_LIMIT, 0},
+    {8, LAST_SECOND, PASUMORIP_DONE, 0},
+};
+
+/* A stake below zero lowers its banked sum by a yield truncated toward zero, down to the limit below zero; a stake of 0 does not. */
+static void ask_below_zero(uint64_t pool)
+{
+    struct lent lent;
+    struct tables tables = {.stakes = {{pool, 1, -1000000, 0, 0},
+                                       {pool, 2, -1000000, 0, 5},
+                                       {pool, 3, -1000000, 1000, 5},
+                                       {pool, 4, 0, 0, 5},
+                                       {pool, 5, -LARGEST, 0, 0},
+                                       {pool, 6, -LARGEST, 0, 1585489},
+                                       {pool, 7, -LARGEST, 0, 1585488}},
+                            .books = {[ADMIN] = 1, [RATE] = 500}};
+    tables.books[pool] = -3000000 - 3 * LARGEST;
+    lend(&lent, 7, 1, &tables);
+    for (size_t each = 0; each < sizeof BELOW_ZERO / sizeof *BELOW_ZERO; each++) {
+        struct question question = {ACCRUED, pool, BELOW_ZERO[each].account, BELOW_ZERO[each].time};
+        about_question(&question);
+        ask(&lent, question, BELOW_ZERO[each].code, BELOW_ZERO[each].sum, 0);
+    }
+}
+
 void questions(void)
 {
     struct lent lent;
@@ -93,4 +140,6 @@ void questions(void)
         ask(&lent, MALFORMED[each], PASUMORIP_MALFORMED, 0, 0);
     }
     ask_at_the_limit();
+    ask_below_zero(BALANCED);
+    ask_below_zero(FLAT);
 }

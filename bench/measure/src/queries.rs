@@ -56,8 +56,8 @@ fn table_test(turns: usize) {
 /// more than 64 bits, and the seconds elapsed differ from call to call, so that the processor foresees no answer.
 fn one_yield(turns: usize) {
     println!("## One multiply-and-divide of a product of two limbs, nanoseconds\n");
-    println!("The C face has none of its own: on one row an accrued query computes one yield more than a stake query. `i128` is the");
-    println!("same yield as the Rust writes it, less the time of handing over its operands.\n");
+    println!("The C face has none of its own: on one row an accrued query computes one yield more than a stake query, and adds it up.");
+    println!("`i128` is the same yield as the Rust writes it, less the time of handing over its operands.\n");
     println!(
         "| yield | accrued query | stake query | their difference | `i128` | ratio |\n|---|---:|---:|---:|---:|---:|"
     );

@@ -1,5 +1,6 @@
 //! What has been compared, by operation and code.
 
+use crate::accrued::Cases;
 use oracle::{grouped, Answer, Books, Code, Record, Rooms};
 use std::collections::BTreeMap;
 use std::fmt;
@@ -57,6 +58,7 @@ pub struct Counts {
     situations: [u64; SITUATIONS.len()],
     calls: [[u64; CODES]; OPERATIONS.len()],
     queries: [[u64; CODES]; QUERIES.len()],
+    pub accrued: Cases,
     lent: BTreeMap<&'static str, u64>,
     replays: u64,
     replayed: u64,
@@ -102,6 +104,7 @@ impl Counts {
         for (count, other) in self.situations.iter_mut().zip(other.situations) {
             *count += other;
         }
+        self.accrued.add(&other.accrued);
         for (kind, count) in &other.lent {
             *self.lent.entry(kind).or_default() += count;
         }
@@ -135,7 +138,8 @@ impl fmt::Display for Counts {
         for ((name, _), count) in SITUATIONS.iter().zip(self.situations) {
             writeln!(f, "| {name} | {} |", grouped(count))?;
         }
-        writeln!(f, "\n| replays | records in them | fresh sets and heads | risks |\n|---:|---:|---:|---:|")?;
+        writeln!(f, "\n| accrued queries, well formed | |\n|---|---:|\n{}", self.accrued)?;
+        writeln!(f, "| replays | records in them | fresh sets and heads | risks |\n|---:|---:|---:|---:|")?;
         let cells = [self.replays, self.replayed, self.fresh, self.risks].map(grouped);
         writeln!(f, "| {} |\n", cells.join(" | "))?;
         writeln!(f, "| lent tables | tried |\n|---|---:|")?;

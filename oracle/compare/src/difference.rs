@@ -4,20 +4,29 @@ use crate::words::Words;
 use oracle::{print_tables, read_log, Record};
 use std::fmt::{self, Debug};
 
-/// One comparison that failed.
+/// One comparison that failed: what each of two sides has.
 #[derive(Debug)]
 pub struct Difference {
     what: String,
-    oracle: String,
-    library: String,
+    sides: [(&'static str, String); 2],
 }
 
 /// Fine where both are equal.
 pub fn same<T: PartialEq + Debug>(what: &str, oracle: T, library: T) -> Result<(), Difference> {
-    if oracle == library {
+    equal(what, ["oracle", "library"], oracle, library)
+}
+
+/// Fine where both the oracle and the library, which are known to agree, have the plain sum.
+pub fn same_as_plain<T: PartialEq + Debug>(what: &str, plain: T, both: T) -> Result<(), Difference> {
+    equal(what, ["plain sum", "oracle and library"], plain, both)
+}
+
+fn equal<T: PartialEq + Debug>(what: &str, names: [&'static str; 2], left: T, right: T) -> Result<(), Difference> {
+    if left == right {
         return Ok(());
     }
-    Err(Difference { what: what.to_string(), oracle: format!("{oracle:?}"), library: format!("{library:?}") })
+    let sides = [(names[0], format!("{left:?}")), (names[1], format!("{right:?}"))];
+    Err(Difference { what: what.to_string(), sides })
 }
 
 /// The first word that differs, since whole tables are too long to read.
@@ -43,7 +52,9 @@ pub fn same_text(what: &str, oracle: &[u8], library: &[u8]) -> Result<(), Differ
 
 impl fmt::Display for Difference {
     fn fmt(&self, f: &mut fmt::Formatter) -> fmt::Result {
-        writeln!(f, "in {}\n  oracle:  {}\n  library: {}", self.what, self.oracle, self.library)
+        writeln!(f, "in {}", self.what)?;
+        let width = self.sides.iter().map(|(name, _)| name.len()).max().unwrap_or(0) + 1;
+        self.sides.iter().try_for_each(|(name, has)| writeln!(f, "  {:width$} {has}", format!("{name}:")))
     }
 }
 

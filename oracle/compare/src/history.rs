@@ -104,7 +104,7 @@ fn write(
         answers.push(answer);
         if plan.rng.one_in(16) {
             let query = any_query(&mut plan.rng, &pair);
-            counts.query(query.kind, &pair.ask(query)?);
+            pair.ask(query, counts)?;
         }
     }
     finish(&mut plan.rng, &mut pair, start, records, &answers, counts)
@@ -134,10 +134,10 @@ pub fn finish(
     for kind in 1..=5 {
         for pool in 0..u64::from(POOLS) {
             let query = Query { kind, pool, ..any_query(rng, pair) };
-            counts.query(kind, &pair.ask(query)?);
+            pair.ask(query, counts)?;
             let number = if kind == 3 || kind == 4 { 0 } else { query.number.max(1) };
             let time = if kind == 2 { query.time } else { 0 };
-            counts.query(kind, &pair.ask(Query { kind, pool, number, time })?);
+            pair.ask(Query { kind, pool, number, time }, counts)?;
         }
     }
     replayed::replay(rng, start, records, answers, pair.words())?;

@@ -40,13 +40,8 @@ pub fn good(rng: &mut Rng, rooms: Rooms, full: bool) -> Tables {
             [pool, offer, reserved as u64, paid as u64]
         })
         .collect();
-    let sum = |figures: &mut dyn Iterator<Item = (u64, i128)>| {
-        let mut sums = [0i128; POOLS as usize];
-        figures.for_each(|(pool, figure)| sums[pool as usize] += figure);
-        sums.map(|sum| sum as u64)
-    };
-    let balances = sum(&mut stakes.iter().map(|row| (row[0], i128::from(row[2] as i64))));
-    let unpaid = sum(&mut offers.iter().map(|row| (row[0], i128::from(row[2]) - i128::from(row[3]))));
+    let balances = balances(&stakes);
+    let unpaid = sums(offers.iter().map(|row| (row[0], i128::from(row[2]) - i128::from(row[3]))));
     let admin = rng.pick(&[1, 1, 1, 2, 1 << 63, u64::MAX]);
     let caller = rng.pick(&[0, 2, 2, 2, 3, 7, u64::MAX]);
     let rate = rng.pick(&[0, 1, 500, 10_000, GREATEST_RATE as u64 - 1, GREATEST_RATE as u64]);
@@ -55,6 +50,18 @@ pub fn good(rng: &mut Rng, rooms: Rooms, full: bool) -> Tables {
     tables.stakes.resize(rooms.stakes, [0; 5]);
     tables.offers.resize(rooms.offers, [0; 4]);
     tables
+}
+
+/// The balance that each pool has by its stakes.
+pub fn balances(stakes: &[[u64; 5]]) -> [u64; POOLS as usize] {
+    sums(stakes.iter().map(|row| (row[0], i128::from(row[2] as i64))))
+}
+
+/// The sum of each pool's figures, as a word.
+fn sums(figures: impl Iterator<Item = (u64, i128)>) -> [u64; POOLS as usize] {
+    let mut sums = [0i128; POOLS as usize];
+    figures.for_each(|(pool, figure)| sums[pool as usize] += figure);
+    sums.map(|sum| sum as u64)
 }
 
 /// Pools and numbers in order.

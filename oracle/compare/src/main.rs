@@ -1,5 +1,6 @@
 //! Compares the proved library with the oracle: after every call the answer, the transfers and all table words.
 
+mod accrued;
 mod beginnings;
 mod counts;
 mod difference;
@@ -26,11 +27,15 @@ const USAGE: &str = "usage: compare CALLS [SEED [THREADS]]
 /// Every so many calls of histories one round of lent tables is tried.
 const CALLS_PER_LENT_ROUND: u64 = 1_000;
 
+/// And every so many calls one round of accrued queries.
+const CALLS_PER_ACCRUED_ROUND: u64 = 2_500;
+
 /// A part of the work that stands by itself.
 enum Job {
     Beginnings,
     Short { book: usize },
     Lent { seed: u64 },
+    Accrued { seed: u64 },
     History { seed: u64, most: usize },
 }
 
@@ -42,6 +47,7 @@ impl Job {
             Job::Beginnings => beginnings::run(counts),
             Job::Short { book } => short::run(book, counts),
             Job::Lent { seed } => lent::run(seed, counts),
+            Job::Accrued { seed } => accrued::run(seed, counts),
             Job::History { seed, most } => history::run(seed, most, counts),
         }?;
         Ok(counts.calls() - before)
@@ -52,7 +58,9 @@ impl Job {
 fn jobs(calls: u64, seed: u64) -> (Vec<Job>, u64) {
     let mut jobs = vec![Job::Beginnings];
     jobs.extend((0..short::BOOKS.len()).map(|book| Job::Short { book }));
-    jobs.extend((0..1 + calls / CALLS_PER_LENT_ROUND).map(|round| Job::Lent { seed: seed.wrapping_add(round) }));
+    let seeds = |rounds: u64| (0..=rounds).map(move |round| seed.wrapping_add(round));
+    jobs.extend(seeds(calls / CALLS_PER_LENT_ROUND).map(|seed| Job::Lent { seed }));
+    jobs.extend(seeds(calls / CALLS_PER_ACCRUED_ROUND).map(|seed| Job::Accrued { seed }));
     let (mut left, mut next) = (calls, seed);
     while left > 0 {
         let most = left.min(history::calls(next) as u64);
@@ -70,22 +78,25 @@ fn main() -> ExitCode {
     };
     let started = Instant::now();
     let (jobs, end) = jobs(calls, seed);
-    match run(&jobs, threads, started) {
-        Ok(counts) => {
-            println!(
-                "{} calls, of which {} in histories of seeds {seed} to {}; {} s; 0 differences\n\n{counts}",
-                grouped(counts.calls()),
-                grouped(calls),
-                end.wrapping_sub(1),
-                started.elapsed().as_secs(),
-            );
-            ExitCode::SUCCESS
-        }
+    let counts = match run(&jobs, threads, started) {
+        Ok(counts) => counts,
         Err(failure) => {
             eprintln!("{failure}");
-            ExitCode::FAILURE
+            return ExitCode::FAILURE;
         }
+    };
+    if let Some(case) = counts.accrued.missed() {
+        eprintln!("compare: there was no accrued query {case}");
+        return ExitCode::FAILURE;
     }
+    println!(
+        "{} calls, of which {} in histories of seeds {seed} to {}; {} s; 0 differences\n\n{counts}",
+        grouped(counts.calls()),
+        grouped(calls),
+        end.wrapping_sub(1),
+        started.elapsed().as_secs(),
+    );
+    ExitCode::SUCCESS
 }
 
 fn run(jobs: &[Job], threads: u64, started: Instant) -> Result<Counts, Box<Failure>> {

@@ -1,6 +1,8 @@
 //! The oracle and the proved library side by side at the same tables.
 
-use crate::difference::{same, same_words, Difference};
+use crate::accrued::Accrued;
+use crate::counts::Counts;
+use crate::difference::{same, same_as_plain, same_words, Difference};
 use crate::guarded::Guarded;
 use crate::words::Words;
 use oracle::{Answer, Books, Code, Desk, Question, Record, Way};
@@ -59,8 +61,10 @@ impl Pair {
         Ok(told)
     }
 
-    pub fn ask(&mut self, query: Query) -> Result<Answer, Difference> {
-        let told = question(query).map_or(Answer::refusal(Code::Malformed), |question| self.desk.ask(&question));
+    /// Asks both sides and counts it. An accrued query is held to the plain sum too.
+    pub fn ask(&mut self, query: Query, counts: &mut Counts) -> Result<(), Difference> {
+        let question = question(query);
+        let told = question.as_ref().map_or(Answer::refusal(Code::Malformed), |question| self.desk.ask(question));
         let mut answer = Guarded::new(&[FILL; 3], FILL);
         let code = proved::query([&self.stakes, &self.offers, &self.books], query, &mut answer);
         let what = format!("{query:?}");
@@ -68,7 +72,12 @@ impl Pair {
         same(&what, told.code as u8, code)?;
         same("the guards of a query's answer", true, answer.intact())?;
         self.same_tables()?;
-        Ok(told)
+        if let Some(accrued) = self.books().zip(question).and_then(|(books, question)| Accrued::of(books, &question)) {
+            same_as_plain(&what, accrued.answer(), told.clone())?;
+            counts.accrued.count(&accrued);
+        }
+        counts.query(query.kind, &told);
+        Ok(())
     }
 
     /// Lent memory is as the oracle has it, and nothing around it was touched.
@@ -96,7 +105,7 @@ fn answer_words(answer: &Answer) -> [u64; 9] {
 }
 
 /// None where the kind is unknown or a field that it does not use is not 0.
-fn question(query: Query) -> Option<Question> {
+pub fn question(query: Query) -> Option<Question> {
     let Query { kind, pool, number, time } = query;
     match (kind, number, time) {
         (1, account, 0) => Some(Question::Stake { pool, account }),

@@ -167,8 +167,8 @@ impl Bench<'_> {
                 for number in [0, 1, 5, 6, 7, 8, 1 << 63, u64::MAX] {
                     for &time in &times {
                         let query = Query { kind, pool, number, time };
-                        let answer = self.pair.ask(query).map_err(|difference| self.failure(vec![], difference))?;
-                        self.counts.query(kind, &answer);
+                        let asked = self.pair.ask(query, self.counts);
+                        asked.map_err(|difference| self.failure(vec![], difference))?;
                     }
                 }
             }

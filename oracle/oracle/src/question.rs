@@ -36,13 +36,14 @@ impl Engine {
         }
         let (first, second) = match *question {
             Question::Stake { pool, account } => (self.stake(pool as u8, account), 0),
-            Question::Accrued { pool, account, now } => (self.accrued(pool as u8, account, now), 0),
+            Question::Accrued { pool, account, now } => (module::accrued(self.env_at(now), pool as u8, account), 0),
             Question::Pool { pool } => pool_figures(&self.env_at(0), pool as u8),
             Question::Count { pool } => (self.count(pool as u8), 0),
             Question::Offer { pool, offer } => self.offer(pool as u8, offer),
         };
+        // Added: the module's accrued sum has no limit.
         let accrued = matches!(question, Question::Accrued { .. });
-        if accrued && first > LIMIT {
+        if accrued && first.abs() > LIMIT {
             return Answer::refusal(Code::OverLimit);
         }
         let narrow = |figure: i128| i64::try_from(figure).expect("a figure of the tables has 64 bits");
@@ -55,15 +56,6 @@ impl Engine {
             Some(tier) => Module::get_tier_stake(env, Address(account), tier),
             None => Module::get_stake(env, Address(account)),
         }
-    }
-
-    /// Added: a stake below 0 shows what is banked alone, where the module lowers it by a running yield.
-    fn accrued(&self, pool: u8, account: u64, now: u64) -> i128 {
-        if self.stake(pool, account) < 0 {
-            let rows = &self.books().stakes;
-            return rows.iter().find(|row| (row.pool, row.account) == (pool, account)).map_or(0, |row| row.accrual);
-        }
-        module::accrued(self.env_at(now), pool, account)
     }
 
     /// The module counts its flat pool only; a tier's count is of its rows.

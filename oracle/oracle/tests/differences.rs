@@ -3,7 +3,7 @@
 mod support;
 
 use oracle::{parse_tables, Answer, Bare, Desk, Question, Record, Tables};
-use support::{accrued, records, HIRE, LAST_TIME, LIMIT};
+use support::{records, HIRE, LAST_TIME, LIMIT};
 
 fn fresh_tables() -> Tables {
     parse_tables("settings 1 0 0 0").expect("the tables are well written")
@@ -108,20 +108,24 @@ reserve pool=3 offer=6 amount=1 signer=2"
     refused_here(tables, &offers, 1, 11);
 }
 
-/// K4 leaves the third staker at -1, which earns -1 in ten years of 1,000 basis points.
+/// Ten years of 1,000 basis points earn a stake's own size, and seventy earn seven times that. Within the limits both answer alike, below zero too.
 #[test]
-fn accrued_below_zero_and_above_its_limit() {
-    let tables = |stake: i64, banked: i64| {
+fn accrued_beyond_its_limit() {
+    const TEN_YEARS: u64 = 315_360_000;
+    const LIMIT_AND_ONE: i128 = LIMIT as i128 + 1;
+    const SEVENTH: i64 = (LIMIT + 1) / 7;
+    let both = |stake: i64, banked: i64, now: u64| {
         let text = format!("stake 2 7 {stake} 0 {banked}\nbalances 0 0 {stake} 0\nsettings 1 0 0 0");
-        parse_tables(&text).expect("the tables are well written")
+        let tables = parse_tables(&text).expect("the tables are well written");
+        let module = Bare::load(&tables).expect("the tables are well formed").accrued(2, 7, now);
+        let here = Desk::open(tables).ask(&Question::Accrued { pool: 2, account: 7, now });
+        (module, here.code as u8, here.first)
     };
-    let module = |tables: &Tables, now| Bare::load(tables).expect("the tables are well formed").accrued(2, 7, now);
-    let below = tables(-1, 0);
-    assert_eq!((module(&below, 315_360_000), accrued(&Desk::open(below), 2, 7, 315_360_000)), (-1, 0));
-    let above = tables(1, LIMIT);
-    let question = Question::Accrued { pool: 2, account: 7, now: 315_360_000 };
-    assert_eq!(module(&above, 315_360_000), i128::from(LIMIT) + 1);
-    assert_eq!(Desk::open(above).ask(&question).to_string(), "10 0 0\n");
+    assert_eq!(both(1, LIMIT, TEN_YEARS), (LIMIT_AND_ONE, 10, 0));
+    assert_eq!(both(1, LIMIT - 1, TEN_YEARS), (LIMIT.into(), 0, LIMIT));
+    assert_eq!(both(-SEVENTH, 0, 7 * TEN_YEARS), (-LIMIT_AND_ONE, 10, 0));
+    assert_eq!(both(-SEVENTH, 1, 7 * TEN_YEARS), ((-LIMIT).into(), 0, -LIMIT));
+    assert_eq!(both(-1, 0, TEN_YEARS), (-1, 0, -1));
 }
 
 /// The module goes on earning after the last second that document 01 knows.

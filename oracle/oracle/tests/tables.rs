@@ -132,13 +132,3 @@ fn queries_refused() {
     }
     assert_eq!(asked(&bad, Question::Pool { pool: 0 }), (2, 0, 0));
 }
-
-/// The added rule: below 0 no running yield is shown, and the module's own negative one is not.
-#[test]
-fn accrued_of_a_stake_below_zero_is_what_is_banked() {
-    for pool in [1, 3] {
-        let balances = if pool == 1 { "0 -9000000 0 0" } else { "0 0 0 -9000000" };
-        let desk = on(&format!("stake {pool} 7 -9000000 0 12\nbalances {balances}\nsettings 1 0 0 1000"));
-        assert_eq!(asked(&desk, Question::Accrued { pool, account: 7, now: 99_000_000 }), (0, 12, 0));
-    }
-}

@@ -87,7 +87,7 @@ fn calls_and_queries(
     for kind in 0..=5 {
         let number = if kind == 3 || kind == 4 { 0 } else { 7 };
         let query = Query { kind, pool: rng.below(5), number, time: 0 };
-        counts.query(kind, &pair.ask(query)?);
+        pair.ask(query, counts)?;
     }
     if let Some(books) = pair.books() {
         let mut author = Author::new(rng.word(), books.clone());
