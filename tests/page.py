@@ -7,12 +7,12 @@ read = lambda ending: pathlib.Path(stem + ending).read_text()
 
 
 class Dom(html.parser.HTMLParser):
-    """Tables as rows of cells, lines as lists of their texts, and the chart's paths and marks."""
+    """Tables as rows of cells, lines as lists of their texts, the chart's paths and marks, and when the accrued yield is of."""
 
     def __init__(self):
         super().__init__()
         self.tables, self.lines, self.paths, self.marks, self.grid, self.outside = {}, {}, {}, [], [], []
-        self.table = self.line = self.text = self.path = None
+        self.table = self.line = self.text = self.path = self.named = self.accrued = None
 
     def handle_starttag(self, tag, attributes):
         given = dict(attributes)
@@ -28,7 +28,7 @@ class Dom(html.parser.HTMLParser):
         elif tag == 'line':
             self.grid.append(float(given['y1']))
         if tag in ('td', 'th', 'p', 'li', 'text', 'title'):
-            self.text = ''
+            self.text, self.named = '', given.get('id')
 
     def handle_data(self, data):
         if self.text is not None:
@@ -39,6 +39,8 @@ class Dom(html.parser.HTMLParser):
             self.table[-1].append(self.text)
         elif tag in ('p', 'li') and self.line is not None:
             self.line.append(self.text)
+        elif tag == 'p' and self.named == 'accrued':
+            self.accrued = self.text
         elif tag == 'text':
             self.marks.append(self.text)
         elif tag == 'title' and self.path:
@@ -70,8 +72,9 @@ same('numbers of lines', sorted(dom.lines), sorted(lines))
 for number, told in lines.items():
     same(f'line {number}', dom.lines[number], told)
 
-# The accounts of the text, and the pools of the tables.
-accounts = explained.split('Accounts, all lines:')[1].split('In all ')[0]
+# The accounts of the text, and when their accrued yield is of; and the pools of the tables.
+when, accounts = re.search(r'^Accounts, all lines(?:; a(.*))?:$(.*?)^In all ', explained, re.M | re.S).groups()
+same('time of the accrued yield', dom.accrued, f'A{when}.' if when else None)
 cells = [cell for line in accounts.splitlines() for cell in re.split(r'  +', line.strip()) if cell]
 same('accounts', [cell for row in dom.tables['accounts'] for cell in row if cell], cells)
 pools = [row for row in csv.DictReader(read('.csv').splitlines()) if row['kind'] == 'pool']

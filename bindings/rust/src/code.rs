@@ -73,7 +73,9 @@ impl Code {
             Code::NoRegistry => "The registry of invoices is not configured.",
             Code::InvalidTransition => "The registry does not have the invoice as defaulted.",
             Code::InsufficientBalance => "The withdrawal is above the stake, or no cover is left for the claim.",
-            Code::OverLimit => "A rate, amount, stake, accrual or reserved sum is past its limit, or would pass it.",
+            Code::OverLimit => {
+                "A rate, amount, stake, accrual, accrued sum or reserved sum is past its limit, or would pass it."
+            }
             Code::TableFull => "A row has to be added and none is free.",
         }
     }

@@ -2,7 +2,7 @@
 
 /// The last time that a call may have.
 pub const LAST_TIME: u64 = 17_179_869_183;
-/// The greatest amount, stake, accrual and reserved sum.
+/// The greatest amount, stake, accrual and reserved sum. Stakes and accrued sums lie within it below zero too.
 pub const GREATEST_AMOUNT: i64 = 1_000_000_000_000_000;
 /// The greatest rate of the flat pool, in basis points.
 pub const GREATEST_RATE: i64 = 1_000_000;

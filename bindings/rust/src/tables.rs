@@ -103,7 +103,20 @@ impl Tables {
         self.ask(1, pool, account.0, 0).map(|(stake, _)| stake)
     }
 
-    /// An account's yield in a pool at a time: what is banked, and what its stake has earned since.
+    /// An account's yield in a pool at a time: what is banked and what runs since, added up. For a stake below zero what runs is below
+    /// zero too, and so can the sum be; for a stake of 0 it is the banked sum alone. Refused with [`Code::OverLimit`] beyond plus or
+    /// minus 10^15.
+    ///
+    /// ```
+    /// use pasumorip::{Account, Pool, Tables};
+    ///
+    /// // A stake of -1 in the Aggressive pool, since 0, with nothing banked.
+    /// let (stakes, offers) = (vec![2, 7, -1i64 as u64, 0, 0], vec![0; 4]);
+    /// let tables = Tables::from_words(stakes, offers, vec![0, 0, -1i64 as u64, 0, 0, 0, 0, 0, 1, 0, 0, 0]);
+    /// assert_eq!(tables.accrued(Pool::Aggressive, Account(7), 315_360_000), Ok(-1));
+    /// // Rounded toward zero.
+    /// assert_eq!(tables.accrued(Pool::Aggressive, Account(7), 315_359_999), Ok(0));
+    /// ```
     pub fn accrued(&self, pool: Pool, account: Account, now: u64) -> Result<i64, Code> {
         self.ask(2, pool, account.0, now).map(|(accrued, _)| accrued)
     }

@@ -63,8 +63,8 @@ const EXPLAIN: &str = "\
 pasumorip explain [LOG] [--line N] [--html FILE]
 
 Tells of each line what it asked for, what happened, whose money moved and how much; for a refusal, the rule that
-refused it. Then, for each account, what it paid in and was paid, and its stakes before and after; and each pool's
-balance and unpaid reserved sum.
+refused it. Then, for each account, what it paid in and was paid, its stakes before and after, and its yield as
+banked and as accrued at the time of the last line; and each pool's balance and unpaid reserved sum.
 
 --line N      only line N, and what the lines before it did
 --html FILE   writes a page of the same to FILE instead: one file that needs nothing else, with a chart of balances

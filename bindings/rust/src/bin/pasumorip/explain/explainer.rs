@@ -1,5 +1,6 @@
 //! Runs a log line by line and says of each what it did.
 
+use super::accrued::Moment;
 use super::asked::asked;
 use super::effect::{effects, Effect};
 use super::refusal::why;
@@ -14,6 +15,8 @@ pub struct Explainer {
     tables: Tables,
     pub books: Books,
     pub summary: Summary,
+    /// When accrued yields are asked: the last line that has a time, also where the clock went back.
+    pub moment: Option<Moment>,
 }
 
 /// A line, explained.
@@ -37,7 +40,7 @@ impl Explainer {
     pub fn open(head: &[u8]) -> Option<Explainer> {
         let tables = Tables::open(Rooms::FULL, head).ok()?;
         let books = books_of(&tables);
-        Some(Explainer { tables, books, summary: Summary::default() })
+        Some(Explainer { tables, books, summary: Summary::default(), moment: None })
     }
 
     /// Stakes before, in the summary, are those that stand now.
@@ -63,6 +66,7 @@ impl Explainer {
         };
         let shares_loss = matches!(operation, Some(Operation::Pay { .. } | Operation::Claim { .. }));
         self.summary.add(&effects, shares_loss);
+        self.moment = Moment::of(self.summary.lines, record.now).or(self.moment);
         self.books = after;
         Explained {
             number: self.summary.lines,
@@ -74,6 +78,13 @@ impl Explainer {
             standing,
             balances: self.books.pools.map(|pool| pool.balance),
         }
+    }
+
+    /// The header and the cells of a row per account and pool.
+    pub fn account_rows(&self) -> Vec<Vec<String>> {
+        self.summary.account_rows(|account, pool| {
+            self.moment.map_or(String::new(), |moment| moment.accrued(&self.tables, pool, account))
+        })
     }
 }
 

@@ -1,5 +1,6 @@
 //! `pasumorip explain`: what each line of a log asked for, what happened, and whose money moved.
 
+mod accrued;
 mod asked;
 mod chart;
 mod effect;

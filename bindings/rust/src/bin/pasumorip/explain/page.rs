@@ -19,11 +19,11 @@ const HEAD: &str = "\
 
 const STYLE: &str = "\
 :root{color-scheme:light dark;font:15px/1.45 system-ui,sans-serif}
-body{max-width:64rem;margin:2rem auto;padding:0 1rem}
+body{max-width:72rem;margin:2rem auto;padding:0 1rem}
 h1{font-size:1.5rem}h2{font-size:1.15rem;margin-top:2rem}
 table{border-collapse:collapse;width:100%;font-variant-numeric:tabular-nums}
 th,td{padding:.3rem .6rem;text-align:right;border-bottom:1px solid #8884}
-th{font-weight:600}.left{text-align:left}
+th{font-weight:600}.left{text-align:left}#accounts{font-size:.85rem}
 .line{border-left:4px solid #4f772d;padding:.1rem 1rem;margin:1rem 0}
 .line.refused{border-color:#a4303f}
 .line p{margin:.3rem 0}.line ul{margin:.3rem 0}.asked{font-weight:600}
@@ -69,11 +69,14 @@ impl Page {
         let counts = self.counts(&explainer.summary, left_over);
         let (legend, chart) = (legend(), chart(&self.balances));
         let pools = table("pools", &pool_rows(&explainer.books), &[0]);
-        let accounts = table("accounts", &explainer.summary.account_rows(), &[0, 3]);
+        let accounts = table("accounts", &explainer.account_rows(), &[0, 3]);
+        let accrued = explainer.moment.map_or(String::new(), |moment| {
+            format!("<p id=\"accrued\">Accrued yield at {}.</p>\n", escaped(&moment.to_string()))
+        });
         let (opening, lines) = (escaped(text::opening(explainer).trim()), self.lines);
         format!(
             "{HEAD}<style>\n{STYLE}</style>\n</head>\n<body>\n<h1>Log explained</h1>\n{counts}\
-             <h2>Balance of each pool</h2>\n{legend}{chart}{pools}<h2>Accounts</h2>\n{accounts}\
+             <h2>Balance of each pool</h2>\n{legend}{chart}{pools}<h2>Accounts</h2>\n{accrued}{accounts}\
              <h2>Lines</h2>\n<p>{opening}</p>\n{lines}</body>\n</html>\n"
         )
     }

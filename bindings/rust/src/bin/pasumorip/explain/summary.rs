@@ -116,21 +116,23 @@ impl Summary {
         (sum(|account| account.paid_in), sum(|account| account.paid_out))
     }
 
-    /// The header and the cells of a row per account and pool.
-    pub fn account_rows(&self) -> Vec<Vec<String>> {
-        let header =
-            ["account", "paid in", "paid out", "pool", "stake before", "stake after", "losses borne", "banked yield"];
-        let mut rows = vec![header.map(String::from).to_vec()];
+    /// The header and the cells of a row per account and pool, with what is told of the accrued yield there.
+    pub fn account_rows(&self, accrued: impl Fn(Account, Pool) -> String) -> Vec<Vec<String>> {
+        let of_account = ["account", "paid in", "paid out"];
+        let of_pool = ["pool", "stake before", "stake after", "losses borne", "banked yield", "accrued yield"];
+        let mut rows = vec![of_account.iter().chain(&of_pool).map(|name| name.to_string()).collect()];
         for (account, summary) in &self.accounts {
             let mut lead = vec![account.to_string(), grouped(summary.paid_in), grouped(summary.paid_out)];
             if summary.pools.is_empty() {
-                rows.push([lead.clone(), vec![String::new(); 5]].concat());
+                rows.push([lead.clone(), vec![String::new(); of_pool.len()]].concat());
             }
             for (pool, figures) in &summary.pools {
                 let PoolSummary { before, after, banked, lost } = *figures;
-                let cells = [grouped(before), grouped(after), grouped(lost), grouped(banked)];
-                rows.push([lead, vec![pool.name().to_string()], cells.to_vec()].concat());
-                lead = vec![String::new(); 3];
+                let name = pool.name().to_string();
+                let accrued = accrued(*account, *pool);
+                let cells = [name, grouped(before), grouped(after), grouped(lost), grouped(banked), accrued];
+                rows.push([lead, cells.to_vec()].concat());
+                lead = vec![String::new(); of_account.len()];
             }
         }
         rows

@@ -30,13 +30,14 @@ pub fn left_over(bytes: usize) -> String {
     }
 }
 
-/// The accounts and the pools as they stand, under a heading that says which lines they are of.
+/// The accounts and the pools as they stand, under a heading that says which lines they are of, and of when the accrued yield is.
 pub fn summary(explainer: &Explainer, lines: &str) -> String {
     let (came_in, went_out) = explainer.summary.sums();
-    let accounts = aligned(&explainer.summary.account_rows(), &[0, 3]);
+    let accrued = explainer.moment.map_or(String::new(), |moment| format!("; accrued yield at {moment}"));
+    let accounts = aligned(&explainer.account_rows(), &[0, 3]);
     let pools = aligned(&pool_rows(&explainer.books), &[0]);
     let sums = format!("In all {} came in and {} went out.", grouped(came_in), grouped(went_out));
-    format!("\nAccounts, {lines}:\n\n{accounts}\n{sums}\n\nPools:\n\n{pools}")
+    format!("\nAccounts, {lines}{accrued}:\n\n{accounts}\n{sums}\n\nPools:\n\n{pools}")
 }
 
 /// Rows of cells under each other: the columns named stand to the left, all others to the right.
