@@ -8,8 +8,7 @@ use native.Mathlib.Omega.{arith}
 use lib.ListN.{length, getD, length-append, length-replicate, getD-replicate, List·getD-eq-default}
 use lib.Seq.{getD-append-add}
 use borrow.Author.Tests.{eq-eqb, ne-eqb}
-use Rattle.rows.specs.inner.Order.{keyAt}
-use Rattle.rows.specs.Rows.{word, zeros}
+use Rattle.rows.specs.Rows.{zeros, word, keyAt}
 use Rattle.rows.proofs.Order.{lt-or-le, le-cases}
 use Rattle.rules.specs.inner.Facts.{Rows}
 use Rattle.books.specs.Layout.{numberWord}

@@ -7,9 +7,9 @@ use native.Mathlib.Nat.{zero-mul}
 use native.Mathlib.Omega.{arith}
 use lib.ListN.{length, take, drop, length-append, length-drop, length-replicate, getD-replicate, take-append-drop, replicate-append-replicate}
 use lib.Seq.{take-add, drop-drop, getD-drop, ext-getD}
-use Rattle.rows.specs.inner.Order.{keyAt, Sorted, Blank}
-use Rattle.rows.specs.Rows.{zeros}
-use Rattle.rows.specs.inner.Found.{placeOf}
+use Rattle.rows.specs.inner.Order.{Blank}
+use Rattle.rows.specs.Rows.{zeros, keyAt, Sorted}
+use Rattle.rows.specs.Lookup.{placeOf}
 use Rattle.rows.specs.declared.Place.{Place}
 use Rattle.rows.specs.declared.Place.the-variants.{At, Gap}
 use Rattle.rows.proofs.Order.{Placed, placed}

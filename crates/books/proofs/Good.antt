@@ -14,7 +14,7 @@ use borrow.Author.Tests.{eqb-true, eq-eqb, le-leb, leb-true}
 use Rattle.whole.specs.Whole.{Within}
 use Rattle.whole.proofs.Linear.{whole}
 use Rattle.whole.proofs.Words.{word-back, number-back}
-use Rattle.rows.specs.inner.Order.{keyAt}
+use Rattle.rows.specs.Rows.{keyAt}
 use Rattle.rules.specs.Limits.{limit, mostStakes, mostOffers}
 use Rattle.rules.specs.Books.{Books, Pool, StakeRow, OfferRow, noFigures, books, settings, stakeKey, offerKey, balanceOf, unpaidOf}
 use Rattle.rules.proofs.Tests.{nth, held}

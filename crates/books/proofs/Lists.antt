@@ -7,8 +7,8 @@ use native.Mathlib.Nat.{zero-add, suc-add, add-zero}
 use native.Mathlib.Omega.{arith}
 use lib.ListN.{length, length-append}
 use borrow.Author.Tests.{lt-ltb, le-ltb, eq-eqb, ne-eqb}
-use Rattle.rows.specs.inner.Order.{keyAt, Sorted}
-use Rattle.rows.specs.inner.Found.{placeOf}
+use Rattle.rows.specs.Rows.{keyAt, Sorted}
+use Rattle.rows.specs.Lookup.{placeOf}
 use Rattle.rows.specs.declared.Place.{Place}
 use Rattle.rows.specs.declared.Place.the-variants.{At, Gap}
 use Rattle.rows.proofs.Order.{Placed, placed}

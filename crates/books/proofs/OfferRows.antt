@@ -8,9 +8,8 @@ use native.Mathlib.Omega.{arith}
 use lib.ListN.{length, getD, take, drop, length-drop}
 use lib.Seq.{getD-drop, getD-append-add}
 use borrow.Author.Tests.{leb-true}
-use Rattle.rows.specs.inner.Order.{keyAt}
-use Rattle.rows.specs.Rows.{word}
-use Rattle.rows.specs.inner.Found.{placeOf}
+use Rattle.rows.specs.Rows.{word, keyAt}
+use Rattle.rows.specs.Lookup.{placeOf}
 use Rattle.rules.specs.Table.{find, put}
 use Rattle.rules.specs.Books.{OfferRow, offerKey, offerGone}
 use Rattle.rules.specs.Limits.{limit, flat}

@@ -5,7 +5,7 @@ use mathlib.Core.List.{List}
 use Prim.Native.Nat.{ℕ, _+_, _<_}
 use native.Mathlib.Omega.{arith}
 use Rattle.rows.specs.Rows.{keyOf}
-use Rattle.rows.specs.inner.Found.{placeOf}
+use Rattle.rows.specs.Lookup.{placeOf}
 use Rattle.rows.specs.declared.Place.the-variants.{At, Gap}
 use Rattle.rows.proofs.Order.{found-at, found-gap, lt-or-le, le-cases}
 use Rattle.books.specs.Layout.{stakeWidth}

@@ -7,9 +7,8 @@ use Prim.Native.Nat.{ℕ, _+_, _*_, _≤_, _<_}
 use native.Mathlib.Nat.{mul-le-mul-right}
 use native.Mathlib.Omega.{arith}
 use lib.ListN.{length, take, drop}
-use Rattle.rows.specs.inner.Order.{keyAt}
-use Rattle.rows.specs.Rows.{word}
-use Rattle.rows.specs.inner.Found.{placeOf}
+use Rattle.rows.specs.Rows.{word, keyAt}
+use Rattle.rows.specs.Lookup.{placeOf}
 use Rattle.rules.specs.Table.{find, put}
 use Rattle.rules.specs.inner.Facts.{Rows}
 use Rattle.rules.proofs.Tables.{put-rows}

@@ -14,10 +14,9 @@ use borrow.Author.Tests.{leb-true}
 use Rattle.whole.specs.Whole.{Within}
 use Rattle.whole.proofs.Linear.{whole, abs, within-abs}
 use Rattle.whole.proofs.Words.{word-back, number-back}
-use Rattle.rows.specs.inner.Order.{keyAt}
-use Rattle.rows.specs.Rows.{word}
+use Rattle.rows.specs.Rows.{word, keyAt}
 use Rattle.rows.specs.inner.Moves.{rowWritten}
-use Rattle.rows.specs.inner.Found.{placeOf}
+use Rattle.rows.specs.Lookup.{placeOf}
 use Rattle.rules.specs.Limits.{limit, flat}
 use Rattle.rules.specs.Table.{find, put}
 use Rattle.rules.specs.Books.{StakeRow, stakeKey, stakeGone}

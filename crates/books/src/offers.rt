@@ -42,7 +42,7 @@ pub fn read_offer(offers: &[u64], used: usize, pool: u64, offer: Offer) -> Offer
     requires { ⌜ HeldOffers (now offers) used ⌝ }
     ensures { λ r. ⌜ offerOf r ≡ offerFor pool offer (now (offers .entry)) ⌝ }
 {
-    match rows::find(offers, OFFER_WIDTH, used, pool, offer.0) {
+    match rows::place_of(offers, OFFER_WIDTH, used, pool, offer.0) {
         Place::At(i) => offer_at(offers, i),
         Place::Gap(_) => OfferLine {
             pool,

@@ -17,7 +17,7 @@ pub fn pool_start(stakes: &[u64], used: usize, pool: u64) -> usize
     requires { ⌜ HeldStakes (now stakes) used ⌝ }
     ensures { λ r. ⌜ PoolStart (now (stakes .entry)) used pool r ⌝ }
 {
-    match rows::find(stakes, STAKE_WIDTH, used, pool, 0) {
+    match rows::place_of(stakes, STAKE_WIDTH, used, pool, 0) {
         Place::At(i) => i,
         Place::Gap(i) => i,
     }

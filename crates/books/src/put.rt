@@ -5,7 +5,7 @@ use rows::Place;
 ghost use mathlib.Core.Path.{_≡_};
 ghost use Prim.Native.Nat.{_*_, _≤_, _<_};
 ghost use lib.ListN.{length};
-ghost use Rattle.rows.specs.inner.Order.{Sorted};
+ghost use Rattle.rows.specs.Rows.{Sorted};
 ghost use Rattle.books.specs.inner.Put.{putWords, putCount, placeFor};
 
 // Puts a row in its place among the first `used` rows, or takes the row with its key out where it is gone. Answers the number of used rows.
@@ -16,7 +16,7 @@ pub fn put_row(s: &mut [u64], width: usize, used: usize, row: &[u64], gone: bool
     ensures { λ r. ⌜ now (s .exit) ≡ putWords width (now (s .entry)) used (now (row .entry)) gone (placeFor (now (s .entry)) width used (now (row .entry))) ⌝ }
     ensures { λ r. ⌜ r ≡ putCount used gone (placeFor (now (s .entry)) width used (now (row .entry))) ⌝ }
 {
-    match rows::find(s, width, used, row[POOL], row[NUMBER]) {
+    match rows::place_of(s, width, used, row[POOL], row[NUMBER]) {
         Place::At(i) => {
             if gone {
                 rows::remove(s, width, used, i);

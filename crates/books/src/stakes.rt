@@ -48,7 +48,7 @@ pub fn read_stake(stakes: &[u64], used: usize, pool: u64, account: Account) -> S
     requires { ⌜ HeldStakes (now stakes) used ⌝ }
     ensures { λ r. ⌜ stakeOf r ≡ stakeFor pool account (now (stakes .entry)) ⌝ }
 {
-    match rows::find(stakes, STAKE_WIDTH, used, pool, account.0) {
+    match rows::place_of(stakes, STAKE_WIDTH, used, pool, account.0) {
         Place::At(i) => stake_at(stakes, i),
         Place::Gap(_) => Stake {
             pool,

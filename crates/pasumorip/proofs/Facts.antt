@@ -20,7 +20,8 @@ use Rattle.history.specs.declared.Progress.{Progress}
 use Rattle.history.specs.Replays.{partRun, replayed}
 use Rattle.queries.specs.Queries.{queryWords}
 use Rattle.queries.specs.Asking.{questionOf}
-use Rattle.pasumorip.specs.Face.{answerLength, numbersLength, progressLength, mostBefore, numberWords, answerWords, answered, applied, queried, questioned, resumed, progressWords, replayedFrom}
+use Rattle.queries.specs.declared.lookups.LookupAnswer.{LookupAnswer}
+use Rattle.pasumorip.specs.Face.{answerLength, numbersLength, lookupLength, progressLength, mostBefore, numberWords, answerWords, answered, applied, queried, questioned, lookupWords, lookedUp, resumed, progressWords, replayedFrom}
 
 -- ---- words
 
@@ -68,6 +69,15 @@ module _ (t : Tables) (kind pool number time : ℕ) (room : List ℕ) where
   pub query-fit : length room ≡ numbersLength → (a : Answer) → a ≡ queryWords t (questionOf (booksOf t) kind pool number time) → (r : ℕ) (words : List ℕ) → r ≡ a .code → words ≡ numberWords a → queried r words ≡ questioned t kind pool number time room
   unfolding questioned
   query-fit l a e r words p q = rw (eq-eqb (length room) numbersLength l, p, q, sym e) refl
+
+-- ---- a lookup
+
+module _ (l : LookupAnswer) (room : List ℕ) where
+  pub lookup-misfit : (length room ≡ lookupLength → ⊥) → queried Malformed room ≡ lookedUp l room
+  lookup-misfit n = rw (ne-eqb (length room) lookupLength n)
+
+  pub lookup-fit : length room ≡ lookupLength → (words : List ℕ) → words ≡ lookupWords l → queried (l .code) words ≡ lookedUp l room
+  lookup-fit k words e = rw (eq-eqb (length room) lookupLength k, e) refl
 
 -- ---- a replay
 

@@ -1,11 +1,15 @@
 -- What C and Rust get from the library, over the words and bytes that they lend.
 use mathlib.Core.Bool.{cond, _&&_}
-use mathlib.Core.List.{List, [], _∷_}
+use mathlib.Core.List.{List, [], _∷_, _++_}
 use Prim.Native.Nat.{ℕ}
 use lib.Dec.{eqb, leb}
 use lib.ListN.{length, getD}
 use mir.Syntax.{w64}
 use mir.Val.{ofZ}
+use Rattle.rows.specs.declared.Place.{Place}
+use Rattle.rows.specs.declared.Place.the-variants.{At, Gap}
+use Rattle.rules.specs.declared.Account.{Account}
+use Rattle.rules.specs.declared.Offer.{Offer}
 use Rattle.rules.specs.declared.Answer.{Answer}
 use Rattle.rules.specs.Answers.{refusal, Malformed, BadTables}
 use Rattle.books.specs.Words.{Tables, booksOf, goodTables, stepWords}
@@ -14,6 +18,8 @@ use Rattle.history.specs.declared.Progress.{Progress}
 use Rattle.history.specs.Replays.{replayed}
 use Rattle.queries.specs.Queries.{queryWords}
 use Rattle.queries.specs.Asking.{questionOf}
+use Rattle.queries.specs.declared.lookups.LookupAnswer.{LookupAnswer}
+use Rattle.queries.specs.Lookups.{stakeLookup, offerLookup}
 
 -- ---- answers as words
 
@@ -66,6 +72,30 @@ unfoldable pub questioned : Tables → ℕ → ℕ → ℕ → ℕ → List ℕ 
 questioned t kind pool number time room =
     let a = queryWords t (questionOf (booksOf t) kind pool number time) in
     cond (eqb (length room) numbersLength) (queried (a .code) (numberWords a)) (queried Malformed room)
+
+-- ---- a lookup: its code, and the words of its answer
+
+abbrev pub lookupLength : ℕ
+lookupLength = 4
+
+-- 1 and where the row is, or 0 and where it would be put in
+abbrev pub placeWords : Place → List ℕ
+placeWords (At i) = 1 ∷ i ∷ []
+placeWords (Gap i) = 0 ∷ i ∷ []
+
+-- code, place, and the number of rows read
+abbrev pub lookupWords : LookupAnswer → List ℕ
+lookupWords l = (l .code ∷ placeWords (l .place)) ++ (l .reads ∷ [])
+
+-- into an answer of another length nothing is written
+abbrev pub lookedUp : LookupAnswer → List ℕ → Queried
+lookedUp l room = cond (eqb (length room) lookupLength) (queried (l .code) (lookupWords l)) (queried Malformed room)
+
+unfoldable pub stakeLookedUp : Tables → ℕ → Account → List ℕ → Queried
+stakeLookedUp t pool account room = lookedUp (stakeLookup t pool account) room
+
+unfoldable pub offerLookedUp : Tables → ℕ → Offer → List ℕ → Queried
+offerLookedUp t pool offer room = lookedUp (offerLookup t pool offer) room
 
 -- ---- a replay: its code, the tables, the text and the words of its progress after it
 

@@ -6,19 +6,21 @@ use crate::words::ANSWER;
 use crate::words::NUMBERS;
 use crate::words::PROGRESS;
 use crate::words::tell_answer;
+use crate::words::tell_lookup;
 use crate::words::tell_progress;
 use crate::words::tell_two;
 use log::RECORD;
 use rules::Account;
+use rules::Offer;
 use rules::codes;
 use rules::refuse;
 ghost use mathlib.Core.Path.{_≡_};
 ghost use Rattle.rules.specs.Terms.{assessRisk};
-ghost use Rattle.rules.specs.Calls.{accountNo};
+ghost use Rattle.rules.specs.Calls.{accountNo, offerNo};
 ghost use Rattle.books.specs.Words.{tables};
 ghost use Rattle.books.specs.Fresh.{renewed, freshWords};
 ghost use Rattle.history.specs.Beginning.{opened};
-ghost use Rattle.pasumorip.specs.Face.{answered, applied, queried, questioned, resumed, replayedFrom};
+ghost use Rattle.pasumorip.specs.Face.{answered, applied, queried, questioned, stakeLookedUp, offerLookedUp, resumed, replayedFrom};
 
 const MALFORMED: u8 = codes::MALFORMED as u8;
 
@@ -93,6 +95,38 @@ pub extern "C" fn pasumorip_query(
     }
     let a = queries::ask(stakes, offers, books, kind, pool, number, time);
     tell_two(answer, a)
+}
+
+// Where an account's stake row is in a pool or would be, and how many rows were read to tell it.
+#[no_mangle]
+pub extern "C" fn pasumorip_look_up_stake(
+    stakes: &[u64],
+    offers: &[u64],
+    books: &[u64],
+    pool: u64,
+    account: u64,
+    answer: &mut [u64],
+) -> u8
+    ensures { λ r. ⌜ queried r (now (answer .exit)) ≡ stakeLookedUp (tables (now (stakes .entry)) (now (offers .entry)) (now (books .entry))) pool (accountNo account) (now (answer .entry)) ⌝ }
+{
+    let found = queries::look_up_stake(stakes, offers, books, pool, Account(account));
+    tell_lookup(answer, found)
+}
+
+// Where an offer's row is in a pool or would be, alike.
+#[no_mangle]
+pub extern "C" fn pasumorip_look_up_offer(
+    stakes: &[u64],
+    offers: &[u64],
+    books: &[u64],
+    pool: u64,
+    offer: u64,
+    answer: &mut [u64],
+) -> u8
+    ensures { λ r. ⌜ queried r (now (answer .exit)) ≡ offerLookedUp (tables (now (stakes .entry)) (now (offers .entry)) (now (books .entry))) pool (offerNo offer) (now (answer .entry)) ⌝ }
+{
+    let found = queries::look_up_offer(stakes, offers, books, pool, Offer(offer));
+    tell_lookup(answer, found)
 }
 
 // The records of a part of a log, run on any tables, which are tested once; what they print is written to `text`.

@@ -1,4 +1,4 @@
--- What the rules promise. The theorems: `Figures`, `Refused`, `Formed` and `Alone` (of one call), `Accrued` (of a query), `Granted`, `Cover` and `Sharing` (over
+-- What the rules promise. The theorems: `Figures`, `Refused`, `Formed` and `Alone` (of one call), `Accrued` (of a query), `Lookups` (of a lookup), `Granted`, `Cover` and `Sharing` (over
 -- histories from a fresh set), `Words` (of the words that hold the books), and `GrantedOnWords`, `CoverOnWords` and `SharingOnWords` (over histories
 -- of words). The other files are their proofs.
 pub mod Pools
@@ -8,6 +8,7 @@ pub mod Alone
 pub mod Along
 pub mod Figures
 pub mod Accrued
+pub mod Lookups
 pub mod Refused
 pub mod Formed
 pub mod Offers

@@ -3,3 +3,4 @@ pub mod QueryOrder
 pub mod QueryRows
 pub mod QueryKinds
 pub mod QueryCodes
+pub mod LookupOrder

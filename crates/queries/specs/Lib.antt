@@ -1,4 +1,5 @@
 -- The definitions that the contracts of this floor cite.
 pub mod Queries
 pub mod Asking
+pub mod Lookups
 pub mod inner

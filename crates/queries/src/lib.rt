@@ -1,7 +1,11 @@
-// The queries, on any words: an answer, and nothing is written. Malformed arguments are told first, then tables that are not well formed.
+// The queries and lookups, on any words: an answer, and nothing is written. Malformed arguments are told first, then tables that are not well formed.
 mod asking;
+mod lookups;
 
 pub use asking::ask;
+pub use lookups::LookupAnswer;
+pub use lookups::look_up_offer;
+pub use lookups::look_up_stake;
 use rules::Account;
 use rules::Accrued;
 use rules::Answer;

@@ -9,9 +9,9 @@ use native.Mathlib.Omega.{arith}
 use lib.Dec.{ltb, eqb}
 use lib.ListN.{length}
 use borrow.Author.Tests.{ltb-true, ltb-false, eqb-true, eqb-false}
-use Rattle.rows.specs.Rows.{numberWord, word}
-use Rattle.rows.specs.inner.Order.{keyAt, Sorted, Used, Packed}
-use Rattle.rows.specs.inner.Found.{placeOf}
+use Rattle.rows.specs.Rows.{numberWord, word, keyAt, Sorted}
+use Rattle.rows.specs.inner.Order.{Used, Packed}
+use Rattle.rows.specs.Lookup.{placeOf}
 use Rattle.rows.specs.inner.Halves.{halfOf}
 use Rattle.rows.specs.declared.search.Span.{Span}
 use Rattle.rows.specs.declared.Place.the-variants.{At, Gap}

@@ -3,3 +3,4 @@ pub mod Halves
 pub mod Words
 pub mod Table
 pub mod Zeros
+pub mod RowsRead

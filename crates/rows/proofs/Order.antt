@@ -8,9 +8,8 @@ use native.Mathlib.Nat.{mul-le-mul-right, eq-or-lt-of-le}
 use native.Mathlib.Omega.{arith}
 use lib.Dec.{ltb, eqb}
 use borrow.Author.Tests.{lt-ltb, le-ltb, eq-eqb, ne-eqb, ltb-true, ltb-false, eqb-true, eqb-false}
-use Rattle.rows.specs.Rows.{keyOf}
-use Rattle.rows.specs.inner.Order.{keyAt, Sorted}
-use Rattle.rows.specs.inner.Found.{placeOf}
+use Rattle.rows.specs.Rows.{keyOf, keyAt, Sorted}
+use Rattle.rows.specs.Lookup.{placeOf}
 use Rattle.rows.specs.declared.Place.{Place}
 use Rattle.rows.specs.declared.Place.the-variants.{At, Gap}
 
@@ -108,7 +107,7 @@ abbrev pub Placed : List ℕ → ℕ → ℕ → ℕ → Place → Type 0
 Placed s w n k (At i) = (i < n) × (keyAt s w i ≡ k)
 Placed s w n k (Gap i) = Bracket s w n k i i
 
--- the place of a key in a sorted table says where its row is, or that there is none and where it would be: what a caller of `find` cites
+-- the place of a key in a sorted table says where its row is, or that there is none and where it would be: what a caller of `place_of` cites
 pub placed : (s : List ℕ) (w n k : ℕ) → Sorted s w n → Placed s w n k (placeOf s w n k)
 placed s w zero k o = bracket-start
 placed s w (suc n) k o = ⊎-elim low (λ l. ⊎-elim (λ e. same (sym e)) (high (placed s w n k (λ a b l q. o a b l (omega arith)))) (le-cases k (keyAt s w n) l)) (lt-or-le (keyAt s w n) k)
@@ -136,7 +135,7 @@ placed s w (suc n) k o = ⊎-elim low (λ l. ⊎-elim (λ e. same (sym e)) (high
     high : Placed s w n k (placeOf s w n k) → k < keyAt s w n → Placed s w (suc n) k (placeOf s w (suc n) k)
     high r h = subst⁻¹ (Placed s w (suc n) k) (place-high s w k n h) (more h (placeOf s w n k) r)
 
--- the two cases by themselves, as an arm of a match on what `find` returned has them
+-- the two cases by themselves, as an arm of a match on what `place_of` returned has them
 pub found-at : (s : List ℕ) (w n k i : ℕ) → Sorted s w n → placeOf s w n k ≡ At i → (i < n) × (keyAt s w i ≡ k)
 found-at s w n k i o e = subst (Placed s w n k) e (placed s w n k o)
 

@@ -1,7 +1,7 @@
 -- A table of rows of w words each in a list s of words: row i is the words i * w .. i * w + w - 1. A row is used where its number is not 0.
 use mathlib.Core.Bool.{Bool, true, _&&_}
 use mathlib.Core.List.{List, [], _∷_}
-use Prim.Native.Nat.{ℕ, _+_, _*_, _^_}
+use Prim.Native.Nat.{ℕ, _+_, _*_, _^_, _<_}
 use lib.Dec.{eqb}
 use lib.ListN.{getD, replicate}
 
@@ -23,6 +23,14 @@ word s w i k = getD s (i * w + k) 0
 -- a row's key as one number: the pool, then the number, each 64 bits. The order of keys is the order of the pairs.
 abbrev pub keyOf : ℕ → ℕ → ℕ
 keyOf pool number = pool * 2 ^ 64 + number
+
+-- the key of row i
+abbrev pub keyAt : List ℕ → ℕ → ℕ → ℕ
+keyAt s w i = keyOf (word s w i poolWord) (word s w i numberWord)
+
+-- the first n rows ascend strictly by key
+abbrev pub Sorted : List ℕ → ℕ → ℕ → Type 0
+Sorted s w n = (i j : ℕ) → i < j → j < n → keyAt s w i < keyAt s w j
 
 -- whether every word is 0
 abbrev pub allZero : List ℕ → Bool

@@ -1,5 +1,4 @@
 -- Definitions that only contracts of functions on rows and proofs speak of.
 pub mod Order
 pub mod Moves
-pub mod Found
 pub mod Halves

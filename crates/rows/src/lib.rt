@@ -13,6 +13,7 @@ pub use row::below;
 pub use row::get;
 pub use scan::blank;
 pub use search::find;
+pub use search::place_of;
 pub use search::used_rows;
 
 // Where the two words of a row's key stand.
@@ -24,4 +25,10 @@ pub const NUMBER: usize = 1;
 pub enum Place {
     At(usize),
     Gap(usize),
+}
+
+// What a lookup answers: the key's place, and how many rows it read to tell it.
+pub struct Lookup {
+    pub place: Place,
+    pub reads: usize,
 }

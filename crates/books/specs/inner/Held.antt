@@ -7,7 +7,8 @@ use Prim.Native.Nat.{ℕ, _*_, _^_, _≤_, _<_}
 use lib.ListN.{length, getD}
 use mir.Syntax.{w64}
 use mir.Val.{toZ}
-use Rattle.rows.specs.inner.Order.{Sorted, Blank}
+use Rattle.rows.specs.Rows.{Sorted}
+use Rattle.rows.specs.inner.Order.{Blank}
 use Rattle.rules.specs.Table.{keyOf, find, put}
 use Rattle.rules.specs.Books.{StakeRow, OfferRow, stakeKey, stakeGone, noStake, offerKey, offerGone, noOffer}
 use Rattle.rules.specs.declared.Account.{Account}

@@ -4,7 +4,7 @@ use mathlib.Core.List.{List}
 use Prim.Native.Nat.{ℕ, _+_, _-_}
 use Rattle.rows.specs.inner.Order.{keyOfRow}
 use Rattle.rows.specs.inner.Moves.{rowWritten, inserted, removed}
-use Rattle.rows.specs.inner.Found.{placeOf}
+use Rattle.rows.specs.Lookup.{placeOf}
 use Rattle.rows.specs.declared.Place.{Place}
 use Rattle.rows.specs.declared.Place.the-variants.{At, Gap}
 

@@ -8,17 +8,9 @@ use lib.Dec.{eqb}
 use lib.ListN.{getD, length}
 use Rattle.rows.specs.Rows.{poolWord, numberWord, word, keyOf}
 
--- the key of row i
-abbrev pub keyAt : List ℕ → ℕ → ℕ → ℕ
-keyAt s w i = keyOf (word s w i poolWord) (word s w i numberWord)
-
 -- the key of a row by itself
 abbrev pub keyOfRow : List ℕ → ℕ
 keyOfRow row = keyOf (getD row poolWord 0) (getD row numberWord 0)
-
--- the first n rows ascend strictly by key
-abbrev pub Sorted : List ℕ → ℕ → ℕ → Type 0
-Sorted s w n = (i j : ℕ) → i < j → j < n → keyAt s w i < keyAt s w j
 
 -- every word from index `from` on is 0
 abbrev pub Blank : List ℕ → ℕ → Type 0

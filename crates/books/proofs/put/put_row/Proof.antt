@@ -1,4 +1,4 @@
--- `put_row` meets its contract. Each arm of the match has the equation of what `find` returned; `said` and `counted` put the place and the test of
+-- `put_row` meets its contract. Each arm of the match has the equation of what `place_of` returned; `said` and `counted` put the place and the test of
 -- that way into the contract's terms.
 use mathlib.Core.Path.{_≡_, sym, ap₂, _∙_, subst}
 use mathlib.Core.Bool.{Bool, false}
@@ -27,13 +27,13 @@ place c = placeFor (c .args .s .now) (c .args .width) (c .args .used) (c .args .
 
 -- the place of the key, and what it says
 at-i : (c : tie.After-i) → place (st c) ≡ At (c .i .given .0 .0)
-at-i c = sym (c .before .before .find .ensures) ∙ c .i .given .1
+at-i c = sym (c .before .before .place-of .ensures) ∙ c .i .given .1
 
 at-below : (c : tie.After-i) → c .i .given .0 .0 < st c .args .used
 at-below c = let a = st c .args in found-at (a .s .now) (a .width) (a .used) (keyOfRow (a .row .now)) (c .i .given .0 .0) (st c .pre .1 .0 .1) (at-i c) .0
 
 gap-i : (c : tie.After-i2) → place (st2 c) ≡ Gap (c .i2 .given .0 .0)
-gap-i c = sym (c .before .before .find .ensures) ∙ c .i2 .given .1
+gap-i c = sym (c .before .before .place-of .ensures) ∙ c .i2 .given .1
 
 gap-le : (c : tie.After-i2) → c .i2 .given .0 .0 ≤ st2 c .args .used
 gap-le c = let a = st2 c .args in found-gap (a .s .now) (a .width) (a .used) (keyOfRow (a .row .now)) (c .i2 .given .0 .0) (st2 c .pre .1 .0 .1) (gap-i c) .hi-le

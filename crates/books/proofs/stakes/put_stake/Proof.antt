@@ -7,7 +7,7 @@ use native.Mathlib.Omega.{arith}
 use lib.ListN.{length}
 use borrow.Author.Needs.{needs}
 use Rattle.rows.specs.inner.Order.{keyOfRow}
-use Rattle.rows.specs.inner.Found.{placeOf}
+use Rattle.rows.specs.Lookup.{placeOf}
 use Rattle.rules.specs.Books.{stakeKey}
 use Rattle.books.specs.Layout.{stakeWidth}
 use Rattle.books.specs.inner.Put.{putWords, putCount}

@@ -3,7 +3,7 @@ use mathlib.Core.Path.{_≡_, sym, ap, _∙_}
 use Prim.Native.Nat.{_<_}
 use native.Mathlib.Omega.{arith}
 use borrow.Author.Needs.{needs}
-use Rattle.rows.specs.inner.Found.{placeOf}
+use Rattle.rows.specs.Lookup.{placeOf}
 use Rattle.rows.specs.declared.Place.the-variants.{At}
 use Rattle.rows.proofs.Order.{found-at}
 use Rattle.rules.specs.Books.{StakeRow, noStake}
@@ -23,15 +23,15 @@ abbrev none : tie.Start → StakeRow
 none c = noStake (c .args .pool) (c .args .account)
 
 at-i : (c : tie.After-i) → placeOf (st c .args .stakes .now) stakeWidth (st c .args .used) (keyOf (st c .args .pool) (st c .args .account .0)) ≡ At (c .i .given .0 .0)
-at-i c = sym (c .before .before .find .ensures) ∙ c .i .given .1
+at-i c = sym (c .before .before .place-of .ensures) ∙ c .i .given .1
 
 below : (c : tie.After-i) → c .i .given .0 .0 < st c .args .used
 below c =
     let a = st c .args in
     found-at (a .stakes .now) stakeWidth (a .used) (keyOf (a .pool) (a .account .0)) (c .i .given .0 .0) (st c .pre .table .sorted) (at-i c) .0
 
-find-requires : tie.Need-find-requires
-find-requires c κs = (omega arith, (c .before .pre .table .fits, c .before .pre .table .sorted))
+place-of-requires : tie.Need-place-of-requires
+place-of-requires c κs = (omega arith, (c .before .pre .table .fits, c .before .pre .table .sorted))
 
 stake-at-requires : tie.Need-stake-at-requires
 stake-at-requires c κs = omega (arith, below (c .before), st (c .before) .pre .table .fits)
@@ -49,8 +49,8 @@ returns-2 c =
     let b = c .before .before .before .before in
     let a = b .args in
     sym (find-stake (a .stakes .now) (a .used) (b .pre .table) (none b) (keyOf (a .pool) (a .account .0))
-    ∙ ap (rowOr stakeRowAt (a .stakes .now) (none b)) (sym (c .before .before .find .ensures) ∙ c .enum-told .given .1))
+    ∙ ap (rowOr stakeRowAt (a .stakes .now) (none b)) (sym (c .before .before .place-of .ensures) ∙ c .enum-told .given .1))
 
 pub read-stake-spec : {M : Type 1} → statement M
 read-stake-spec =
-    tie.close (tie.spec find-requires (λ c. search needs) stake-at-requires (λ c. search needs) returns returns-2)
+    tie.close (tie.spec place-of-requires (λ c. search needs) stake-at-requires (λ c. search needs) returns returns-2)
