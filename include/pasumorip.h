@@ -50,6 +50,7 @@ enum {
     PASUMORIP_RECORD_BYTES = 48,
     PASUMORIP_ANSWER_WORDS = 9,
     PASUMORIP_TOLD_WORDS = 3,
+    PASUMORIP_LOOKUP_WORDS = 4,
     PASUMORIP_PROGRESS_WORDS = 3,
     PASUMORIP_LONGEST_TEXT = 178
 };
@@ -82,6 +83,19 @@ uint8_t pasumorip_apply(uint64_t *stakes, size_t stakes_words, uint64_t *offers,
 uint8_t pasumorip_query(const uint64_t *stakes, size_t stakes_words, const uint64_t *offers, size_t offers_words, const uint64_t *books,
                         size_t books_words, uint64_t kind, uint64_t pool, uint64_t number, uint64_t time, uint64_t *answer,
                         size_t answer_words);
+
+/* Where an account's stake row or an offer's row is in its table, or would be put in, and how many rows were read to tell it: at most as many
+ * as the number of used rows has binary digits, none of an empty table. A row's pool and number together are one read. What comes before the
+ * lookup is not counted: the test of the tables, and finding how many of their rows are used.
+ * Writes 4 words to answer: code; 1 where the row is there, 0 where it is not; its place, or the one at which it would be put in, from 0 on;
+ * the number of rows read. Returns the code. A pool above 3 or a number of 0 is refused with MALFORMED, then tables that are not well formed
+ * with BAD_TABLES: a refusal writes its code and three zeros. An answer of another length is refused with MALFORMED and nothing is written. */
+uint8_t pasumorip_look_up_stake(const uint64_t *stakes, size_t stakes_words, const uint64_t *offers, size_t offers_words,
+                                const uint64_t *books, size_t books_words, uint64_t pool, uint64_t account, uint64_t *answer,
+                                size_t answer_words);
+uint8_t pasumorip_look_up_offer(const uint64_t *stakes, size_t stakes_words, const uint64_t *offers, size_t offers_words,
+                                const uint64_t *books, size_t books_words, uint64_t pool, uint64_t offer, uint64_t *answer,
+                                size_t answer_words);
 
 /* The records of a part of a log, one after the other. The tables are tested once. Runs whole records while one is there and at least
  * PASUMORIP_LONGEST_TEXT bytes of text are left, and writes what document 01's replay prints of each: its number, code and two numbers, then

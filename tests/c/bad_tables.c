@@ -17,6 +17,8 @@ static const struct question QUESTIONS[] = {
     {STAKE_OF, BALANCED, 7, 0}, {ACCRUED, BALANCED, 7, 400}, {POOL, BALANCED, 0, 0}, {COUNT, BALANCED, 0, 0}, {OFFER, BALANCED, 4, 0},
 };
 
+static const struct lookup LOOKUPS[] = {{IN_STAKES, BALANCED, 7}, {IN_OFFERS, BALANCED, 4}};
+
 void check_bad_tables(struct lent *lent)
 {
     for (size_t call = 0; call < sizeof CALLS / sizeof *CALLS; call++) {
@@ -30,5 +32,11 @@ void check_bad_tables(struct lent *lent)
         malformed.pool = FLAT + 1;
         ask(lent, QUESTIONS[question], PASUMORIP_BAD_TABLES, 0, 0);
         ask(lent, malformed, PASUMORIP_MALFORMED, 0, 0);
+    }
+    for (size_t lookup = 0; lookup < sizeof LOOKUPS / sizeof *LOOKUPS; lookup++) {
+        struct lookup malformed = LOOKUPS[lookup];
+        malformed.number = 0;
+        look_up(lent, LOOKUPS[lookup], (struct found){.code = PASUMORIP_BAD_TABLES});
+        look_up(lent, malformed, (struct found){.code = PASUMORIP_MALFORMED});
     }
 }

@@ -64,6 +64,17 @@ struct answer {
 
 struct question { uint64_t kind, pool, number, time; };
 
+/* The two tables with rows to look up. */
+enum table { IN_STAKES, IN_OFFERS };
+
+struct lookup {
+    enum table table;
+    uint64_t pool, number;
+};
+
+/* In the order of a lookup's words. */
+struct found { uint64_t code, row, place, reads; };
+
 struct answer refusal(uint64_t code);
 struct answer done(uint64_t first, uint64_t second);
 struct answer moved(uint64_t first, uint64_t second, uint64_t kind, uint64_t account, uint64_t amount);
@@ -86,12 +97,16 @@ void lend(struct lent *lent, uint64_t stake_rooms, uint64_t offer_rooms, const s
 void lend_well_formed(struct lent *lent);
 void put_record(struct lent *lent, struct call call);
 
-/* Each asks the library, and checks the code, every word of the answer, that a refused call changed no word of the tables, a question never
- * one, and nothing a word that was not lent. */
+/* Each asks the library, and checks the code, every word of the answer, that a refused call changed no word of the tables, a question or a
+ * lookup never one, and nothing a word that was not lent. */
 void apply(struct lent *lent, struct call call, struct answer wanted);
 void ask(struct lent *lent, struct question question, uint64_t code, uint64_t first, uint64_t second);
+void look_up(struct lent *lent, struct lookup lookup, struct found wanted);
 
-/* Every call and every question is refused as BAD_TABLES, and one that is malformed as MALFORMED. */
+/* A lookup's code, with an answer of as many words, and nothing checked. */
+uint8_t lookup_code(struct lent *lent, struct lookup lookup, uint64_t answer_words);
+
+/* Every call, question and lookup is refused as BAD_TABLES, and one that is malformed as MALFORMED. */
 void check_bad_tables(struct lent *lent);
 
 /* Runs a part's checks and prints how many they were. */
@@ -107,6 +122,7 @@ void losses(void);
 void lengths(void);
 void lent_words(void);
 void questions(void);
+void lookups(void);
 void heads(void);
 void risk(void);
 

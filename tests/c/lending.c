@@ -114,3 +114,19 @@ void ask(struct lent *lent, struct question question, uint64_t code, uint64_t fi
     memcpy(expected.answer, wanted, sizeof wanted);
     check_same(lent, &expected);
 }
+
+uint8_t lookup_code(struct lent *lent, struct lookup lookup, uint64_t answer_words)
+{
+    return (lookup.table == IN_STAKES ? pasumorip_look_up_stake : pasumorip_look_up_offer)(TABLES(lent), lookup.pool, lookup.number,
+                                                                                           lent->answer, answer_words);
+}
+
+void look_up(struct lent *lent, struct lookup lookup, struct found wanted)
+{
+    struct lent expected = *lent;
+    uint8_t code = lookup_code(lent, lookup, PASUMORIP_LOOKUP_WORDS);
+    check(code == wanted.code, "a lookup answers code %d, and %d is expected", code, (int)wanted.code);
+    _Static_assert(sizeof wanted == PASUMORIP_LOOKUP_WORDS * sizeof *lent->answer, "an answer is its words");
+    memcpy(expected.answer, &wanted, sizeof wanted);
+    check_same(lent, &expected);
+}

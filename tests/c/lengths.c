@@ -30,17 +30,24 @@ static void take_tables(uint64_t stake_rooms, uint64_t offer_rooms)
           moved(0, 0, IN, 7, 1000000));
     check_tables(&lent, &(struct tables){.stakes = {{FLAT, 7, 1000000, 9, 0}}, .books = {[FLAT] = 1000000, [ADMIN] = 1}});
     ask(&lent, (struct question){COUNT, FLAT, 0, 0}, PASUMORIP_DONE, 1, 0);
+    look_up(&lent, (struct lookup){IN_STAKES, FLAT, 7}, (struct found){PASUMORIP_DONE, 1, 0, 1});
+    look_up(&lent, (struct lookup){IN_OFFERS, FLAT, 7}, (struct found){PASUMORIP_DONE, 0, 0, 0});
     check(pasumorip_fresh(TABLES(&lent), 1) == PASUMORIP_DONE, "a fresh set is refused");
     check_tables(&lent, &EMPTY);
 }
 
-/* The answer of the call before is gone. */
+/* The answer before is gone, so that one like it shows where nothing is to be written. */
+static void begin(void)
+{
+    memset(lent.answer, 0x5a, sizeof lent.answer);
+    before = lent;
+}
+
 static void refuse_record(uint64_t record_bytes)
 {
     const struct answer wanted = refusal(PASUMORIP_MALFORMED);
     about("a record of %d bytes", (int)record_bytes);
-    memset(lent.answer, 0x5a, sizeof wanted);
-    before = lent;
+    begin();
     memcpy(before.answer, &wanted, sizeof wanted);
     uint8_t code = pasumorip_apply(TABLES(&lent), lent.bytes, record_bytes, lent.answer, PASUMORIP_ANSWER_WORDS);
     check_untouched(code, PASUMORIP_MALFORMED, &lent, &before);
@@ -49,7 +56,7 @@ static void refuse_record(uint64_t record_bytes)
 static void refuse_answer(uint64_t record_bytes, uint64_t answer_words)
 {
     about("a record of %d bytes and an answer of %d words", (int)record_bytes, (int)answer_words);
-    before = lent;
+    begin();
     uint8_t code = pasumorip_apply(TABLES(&lent), lent.bytes, record_bytes, lent.answer, answer_words);
     check_untouched(code, PASUMORIP_MALFORMED, &lent, &before);
 }
@@ -57,20 +64,30 @@ static void refuse_answer(uint64_t record_bytes, uint64_t answer_words)
 static void refuse_question(uint64_t answer_words)
 {
     about("a question's answer of %d words", (int)answer_words);
-    before = lent;
+    begin();
     uint8_t code = pasumorip_query(TABLES(&lent), POOL, BALANCED, 0, 0, lent.answer, answer_words);
+    check_untouched(code, PASUMORIP_MALFORMED, &lent, &before);
+}
+
+static void refuse_lookup(enum table table, uint64_t answer_words)
+{
+    about("a lookup's answer of %d words, table %d", (int)answer_words, table);
+    begin();
+    uint8_t code = lookup_code(&lent, (struct lookup){table, BALANCED, 7}, answer_words);
     check_untouched(code, PASUMORIP_MALFORMED, &lent, &before);
 }
 
 static void refuse_records_and_answers(void)
 {
-    static const uint64_t RECORDS[] = {0, 1, 47, 49}, ANSWERS[] = {0, 3, 8, 10}, TOLD[] = {0, 2, 4, 9};
+    static const uint64_t RECORDS[] = {0, 1, 47, 49}, ANSWERS[] = {0, 3, 8, 10}, TOLD[] = {0, 2, 4, 9}, LOOKUPS[] = {0, 3, 5, 9};
     put_record(&lent, (struct call){.operation = PAUSE, .now = 9, .signer = 1});
     for (size_t each = 0; each < 4; each++) {
         refuse_record(RECORDS[each]);
         refuse_answer(PASUMORIP_RECORD_BYTES, ANSWERS[each]);
         refuse_answer(RECORDS[each], ANSWERS[each]);
         refuse_question(TOLD[each]);
+        refuse_lookup(IN_STAKES, LOOKUPS[each]);
+        refuse_lookup(IN_OFFERS, LOOKUPS[each]);
     }
 }
 

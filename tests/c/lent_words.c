@@ -88,12 +88,21 @@ static void lend_edited(const struct edit *edit)
         ((uint64_t *)&lent)[edit->words[word].place] = edit->words[word].value;
 }
 
+/* The last row of a table is found at its place. */
+static void look_last(enum table table, size_t row, uint64_t place, uint64_t reads)
+{
+    const uint64_t *words = (const uint64_t *)&lent + row;
+    look_up(&lent, (struct lookup){table, words[ROW_POOL], words[ROW_NUMBER]}, (struct found){PASUMORIP_DONE, 1, place, reads});
+}
+
 /* Good tables answer, and an unpause by their admin writes one word of them. */
 static void check_taken(void)
 {
     struct lent expected = lent;
     expected.books[PAUSED] = 0;
     ask(&lent, (struct question){POOL, BALANCED, 0, 0}, PASUMORIP_DONE, lent.books[BALANCED], lent.books[UNPAID + BALANCED]);
+    look_last(IN_STAKES, STAKE_AT(STAKE_ROWS - 1, ROW_POOL), STAKE_ROWS - 1, 3);
+    look_last(IN_OFFERS, OFFER_AT(OFFER_ROWS - 1, ROW_POOL), OFFER_ROWS - 1, 2);
     apply(&lent, (struct call){.operation = UNPAUSE, .now = 400, .signer = lent.books[ADMIN]}, done(0, 0));
     memcpy(expected.answer, lent.answer, sizeof lent.answer);
     memcpy(expected.bytes, lent.bytes, sizeof lent.bytes);

@@ -8,6 +8,7 @@ int main(void)
     part("lengths", lengths);
     part("lent words", lent_words);
     part("questions", questions);
+    part("lookups", lookups);
     part("heads", heads);
     part("risk", risk);
     return all_held() ? 0 : 1;
