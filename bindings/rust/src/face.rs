@@ -72,6 +72,30 @@ mod c {
             answer: *mut u64,
             answer_words: usize,
         ) -> u8;
+        pub fn pasumorip_look_up_stake(
+            stakes: *const u64,
+            stakes_words: usize,
+            offers: *const u64,
+            offers_words: usize,
+            books: *const u64,
+            books_words: usize,
+            pool: u64,
+            account: u64,
+            answer: *mut u64,
+            answer_words: usize,
+        ) -> u8;
+        pub fn pasumorip_look_up_offer(
+            stakes: *const u64,
+            stakes_words: usize,
+            offers: *const u64,
+            offers_words: usize,
+            books: *const u64,
+            books_words: usize,
+            pool: u64,
+            offer: u64,
+            answer: *mut u64,
+            answer_words: usize,
+        ) -> u8;
         pub fn pasumorip_replay(
             stakes: *mut u64,
             stakes_words: usize,
@@ -101,6 +125,17 @@ macro_rules! lend {
     }};
 }
 
+/// The same of a function that only reads them.
+macro_rules! show {
+    ($function:ident, $tables:expr, $($argument:expr),+) => {{
+        let Shown { stakes, offers, books } = $tables;
+        let (stakes_words, offers_words, books_words) = (stakes.len(), offers.len(), books.len());
+        let (stakes, offers, books) = (stakes.as_ptr(), offers.as_ptr(), books.as_ptr());
+        // SAFETY: as above; the tables are only read.
+        unsafe { c::$function(stakes, stakes_words, offers, offers_words, books, books_words, $($argument),+) }
+    }};
+}
+
 pub fn fresh(tables: Lent, admin: u64) -> u8 {
     lend!(pasumorip_fresh, tables, admin)
 }
@@ -119,28 +154,17 @@ pub fn replay(tables: Lent, records: &[u8], text: &mut [u8], progress: &mut [u64
     lend!(pasumorip_replay, tables, records.as_ptr(), records.len(), text, text_bytes, progress, progress_words)
 }
 
-pub fn query(Shown { stakes, offers, books }: Shown, question: Question, answer: &mut [u64]) -> u8 {
+pub fn query(tables: Shown, question: Question, answer: &mut [u64]) -> u8 {
     let Question { kind, pool, number, time } = question;
-    let (stakes_words, offers_words, books_words) = (stakes.len(), offers.len(), books.len());
-    let (stakes, offers, books) = (stakes.as_ptr(), offers.as_ptr(), books.as_ptr());
-    let (answer_words, answer) = (answer.len(), answer.as_mut_ptr());
-    // SAFETY: as above; the tables are only read.
-    unsafe {
-        c::pasumorip_query(
-            stakes,
-            stakes_words,
-            offers,
-            offers_words,
-            books,
-            books_words,
-            kind,
-            pool,
-            number,
-            time,
-            answer,
-            answer_words,
-        )
-    }
+    show!(pasumorip_query, tables, kind, pool, number, time, answer.as_mut_ptr(), answer.len())
+}
+
+pub fn look_up_stake(tables: Shown, pool: u64, account: u64, answer: &mut [u64]) -> u8 {
+    show!(pasumorip_look_up_stake, tables, pool, account, answer.as_mut_ptr(), answer.len())
+}
+
+pub fn look_up_offer(tables: Shown, pool: u64, offer: u64, answer: &mut [u64]) -> u8 {
+    show!(pasumorip_look_up_offer, tables, pool, offer, answer.as_mut_ptr(), answer.len())
 }
 
 pub fn assess_risk(age: u64, repayments: u32, defaults: u32, amount: i64) -> u8 {

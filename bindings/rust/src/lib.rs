@@ -28,6 +28,7 @@
 //! | keep the books of the pools | [`Tables`] |
 //! | make a call | [`Call`] and [`Tables::apply`] |
 //! | ask | [`Tables::stake`], [`Tables::accrued`], [`Tables::pool`], [`Tables::stakers_count`], [`Tables::offer`] |
+//! | learn where a row is, and how many rows are read to find it | [`Tables::look_up_stake`], [`Tables::look_up_offer`] |
 //! | read the books as rows | [`Tables::books`] |
 //! | read and write logs | [`log`], [`record`] and [`form`] |
 //! | replay a log | [`replay()`] |
@@ -43,6 +44,7 @@ mod flaw;
 pub mod form;
 pub mod limits;
 pub mod log;
+mod lookup;
 mod numbers;
 mod pool;
 pub mod record;
@@ -54,6 +56,7 @@ pub use books::{Books, OfferFigures, OfferRow, PoolFigures, Settings, StakeRow};
 pub use call::{Call, Operation};
 pub use code::Code;
 pub use flaw::Flaw;
+pub use lookup::{Lookup, Place};
 pub use numbers::{Account, Invoice, Offer};
 pub use pool::{assess_risk, Pool, Reply};
 pub use replay::{replay, replay_watched, Ended};

@@ -6,6 +6,7 @@ use crate::call::Call;
 use crate::code::Code;
 use crate::face::{self, Lent, Question, Shown};
 use crate::limits::{MOST_OFFERS, MOST_STAKES};
+use crate::lookup::{Lookup, LOOKUP_WORDS};
 use crate::numbers::{Account, Offer};
 use crate::pool::Pool;
 
@@ -136,12 +137,41 @@ impl Tables {
     }
 
     fn ask(&self, kind: u64, pool: Pool, number: u64, time: u64) -> Result<(i64, i64), Code> {
-        let tables = Shown { stakes: &self.stakes, offers: &self.offers, books: &self.books };
         let question = Question { kind, pool: pool.number().into(), number, time };
         let mut words = [0; 3];
-        Code::told(face::query(tables, question, &mut words).into()).done()?;
+        Code::told(face::query(self.show(), question, &mut words).into()).done()?;
         let [_, first, second] = words;
         Ok((first as i64, second as i64))
+    }
+
+    /// Where an account's stake row is in a pool, or would be, and how many rows were read to tell it.
+    ///
+    /// ```
+    /// use pasumorip::{Account, Lookup, Place, Pool, Tables};
+    ///
+    /// // Accounts 7, 8 and 9 in the Balanced pool, and a row that is not used.
+    /// let row = |account| [1, account, 1_000_000, 0, 0];
+    /// let stakes = [row(7), row(8), row(9), [0; 5]].concat();
+    /// let tables = Tables::from_words(stakes, vec![0; 4], vec![0, 3_000_000, 0, 0, 0, 0, 0, 0, 1, 0, 0, 0]);
+    /// // 3 has two binary digits.
+    /// let row = tables.look_up_stake(Pool::Balanced, Account(7));
+    /// assert_eq!(row, Ok(Lookup { place: Place::Row(0), reads: 2 }));
+    /// let none = tables.look_up_stake(Pool::Aggressive, Account(7));
+    /// assert_eq!(none, Ok(Lookup { place: Place::Gap(3), reads: 2 }));
+    /// ```
+    pub fn look_up_stake(&self, pool: Pool, account: Account) -> Result<Lookup, Code> {
+        self.look_up(face::look_up_stake, pool, account.0)
+    }
+
+    /// Where an offer's row is in a pool, or would be, and how many rows were read to tell it.
+    pub fn look_up_offer(&self, pool: Pool, offer: Offer) -> Result<Lookup, Code> {
+        self.look_up(face::look_up_offer, pool, offer.0)
+    }
+
+    fn look_up(&self, ask: fn(Shown, u64, u64, &mut [u64]) -> u8, pool: Pool, number: u64) -> Result<Lookup, Code> {
+        let mut words = [0; LOOKUP_WORDS];
+        Code::told(ask(self.show(), pool.number().into(), number, &mut words).into()).done()?;
+        Ok(Lookup::from_words(words))
     }
 
     /// Everything that the tables hold, where they are well formed.
@@ -167,6 +197,10 @@ impl Tables {
                 rate: rate as i64,
             },
         })
+    }
+
+    fn show(&self) -> Shown<'_> {
+        Shown { stakes: &self.stakes, offers: &self.offers, books: &self.books }
     }
 
     pub(crate) fn lend(&mut self) -> Lent<'_> {

@@ -6,7 +6,6 @@ mod plain;
 #[cfg(test)]
 mod slips;
 
-pub use cases::Cases;
 pub use plain::Accrued;
 
 use crate::counts::Counts;

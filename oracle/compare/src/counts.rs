@@ -1,6 +1,8 @@
 //! What has been compared, by operation and code.
 
-use crate::accrued::Cases;
+use crate::accrued::Accrued;
+use crate::cases::Cases;
+use crate::lookups::Looked;
 use oracle::{grouped, Answer, Books, Code, Record, Rooms};
 use std::collections::BTreeMap;
 use std::fmt;
@@ -58,7 +60,8 @@ pub struct Counts {
     situations: [u64; SITUATIONS.len()],
     calls: [[u64; CODES]; OPERATIONS.len()],
     queries: [[u64; CODES]; QUERIES.len()],
-    pub accrued: Cases,
+    pub accrued: Cases<Accrued>,
+    pub lookups: Cases<Looked>,
     lent: BTreeMap<&'static str, u64>,
     replays: u64,
     replayed: u64,
@@ -105,6 +108,7 @@ impl Counts {
             *count += other;
         }
         self.accrued.add(&other.accrued);
+        self.lookups.add(&other.lookups);
         for (kind, count) in &other.lent {
             *self.lent.entry(kind).or_default() += count;
         }
@@ -139,6 +143,7 @@ impl fmt::Display for Counts {
             writeln!(f, "| {name} | {} |", grouped(count))?;
         }
         writeln!(f, "\n| accrued queries, well formed | |\n|---|---:|\n{}", self.accrued)?;
+        writeln!(f, "| lookups | |\n|---|---:|\n| in all | {} |\n{}", grouped(self.lookups.all()), self.lookups)?;
         writeln!(f, "| replays | records in them | fresh sets and heads | risks |\n|---:|---:|---:|---:|")?;
         let cells = [self.replays, self.replayed, self.fresh, self.risks].map(grouped);
         writeln!(f, "| {} |\n", cells.join(" | "))?;

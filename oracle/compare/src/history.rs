@@ -1,8 +1,9 @@
-//! Random histories: calls one by one on both sides, then the queries, then the whole again by replay.
+//! Random histories: calls one by one on both sides, then queries, the whole again by replay, and lookups.
 
 use crate::counts::{Counts, Situation};
 use crate::difference::{Difference, Failure};
 use crate::lent;
+use crate::lookups::{around, few};
 use crate::pair::Pair;
 use crate::replayed;
 use crate::shrink::fewest;
@@ -10,6 +11,9 @@ use crate::words::Words;
 use oracle::limits::{LAST_TIME, POOLS};
 use oracle::{Answer, Author, Code, Record, Rng, Rooms, Tables};
 use proved::Query;
+
+/// So many rows of each table are looked up after the last call, with the gaps around them.
+const LOOKED_UP: usize = 4;
 
 /// What a seed stands for.
 struct Plan {
@@ -86,6 +90,8 @@ fn write(
     let mut before = pair.books().expect("the tables are well formed").clone();
     let mut author = Author::new(seed, before.clone());
     author.calls_per_slip = plan.calls_per_slip;
+    // Lookups have draws of their own, so that a seed stands for the same calls and queries without them.
+    let mut seeker = Rng(seed.rotate_left(32));
     let mut answers = Vec::new();
     for _ in 0..plan.calls.min(most) {
         let record = garble(&mut plan.rng, author.record());
@@ -106,6 +112,11 @@ fn write(
             let query = any_query(&mut plan.rng, &pair);
             pair.ask(query, counts)?;
         }
+        if seeker.one_in(16) {
+            for lookup in few(&mut seeker, &pair.tables()) {
+                pair.look_up(lookup, counts)?;
+            }
+        }
     }
     finish(&mut plan.rng, &mut pair, start, records, &answers, counts)
 }
@@ -122,7 +133,7 @@ fn garble(rng: &mut Rng, record: Record) -> Record {
     Record::from_bytes(&bytes)
 }
 
-/// What is compared after the last call: queries of every kind, and the history by replay.
+/// What is compared after the last call: queries of every kind, the history by replay, and lookups.
 pub fn finish(
     rng: &mut Rng,
     pair: &mut Pair,
@@ -142,7 +153,7 @@ pub fn finish(
     }
     replayed::replay(rng, start, records, answers, pair.words())?;
     counts.replay(records.len());
-    Ok(())
+    around(rng, &pair.tables(), LOOKED_UP).into_iter().try_for_each(|lookup| pair.look_up(lookup, counts))
 }
 
 /// Mostly of a row that is there, at times with a field that its kind does not use.

@@ -5,8 +5,8 @@ mod tried;
 
 pub use tried::run;
 
+use crate::words::Words;
 use bad::{spoil, KINDS};
-
 use oracle::limits::{GREATEST_RATE, LAST_TIME, LIMIT, POOLS};
 use oracle::{Rng, Rooms, Tables};
 use std::collections::BTreeSet;
@@ -24,16 +24,36 @@ enum Style {
 
 /// Well-formed tables; `full` of them has every row in use.
 pub fn good(rng: &mut Rng, rooms: Rooms, full: bool) -> Tables {
+    let count = |rng: &mut Rng, rooms: usize| if full { rooms } else { rng.below(rooms as u64 + 1) as usize };
+    filled(rng, rooms, [count, count])
+}
+
+/// Well-formed tables with so many rows in use.
+pub fn used(rng: &mut Rng, rooms: Rooms, rows: Rooms) -> Tables {
+    filled(rng, rooms, [rows.stakes, rows.offers].map(|rows| move |_: &mut Rng, _| rows))
+}
+
+/// Well-formed tables with one thing wrong, of any kind.
+pub fn bad(rng: &mut Rng, mut words: Words) -> Words {
+    let (_, change) = rng.pick(KINDS);
+    change(rng, &mut words);
+    words
+}
+
+/// Well-formed tables. How many of its rows a table uses is drawn just before their keys.
+fn filled(rng: &mut Rng, rooms: Rooms, [stakes, offers]: [impl Fn(&mut Rng, usize) -> usize; 2]) -> Tables {
     let styles =
         [(); POOLS as usize].map(|()| rng.pick(&[Style::Few, Style::Usual, Style::Usual, Style::Edge, Style::Mixed]));
-    let stakes: Vec<[u64; 5]> = keys(rng, rooms.stakes, full)
+    let used = stakes(rng, rooms.stakes);
+    let stakes: Vec<[u64; 5]> = keys(rng, rooms.stakes, used)
         .into_iter()
         .map(|(pool, account)| {
             let (stake, since, accrual) = figures(rng, styles[pool as usize]);
             [pool, account, stake as u64, since, accrual as u64]
         })
         .collect();
-    let offers: Vec<[u64; 4]> = keys(rng, rooms.offers, full)
+    let used = offers(rng, rooms.offers);
+    let offers: Vec<[u64; 4]> = keys(rng, rooms.offers, used)
         .into_iter()
         .map(|(pool, offer)| {
             let (reserved, paid) = cover(rng);
@@ -65,8 +85,7 @@ fn sums(figures: impl Iterator<Item = (u64, i128)>) -> [u64; POOLS as usize] {
 }
 
 /// Pools and numbers in order.
-fn keys(rng: &mut Rng, rooms: usize, full: bool) -> BTreeSet<(u64, u64)> {
-    let count = if full { rooms } else { rng.below(rooms as u64 + 1) as usize };
+fn keys(rng: &mut Rng, rooms: usize, count: usize) -> BTreeSet<(u64, u64)> {
     // Some tables use one pool alone.
     let only = if rng.one_in(4) { Some(rng.below(POOLS.into())) } else { None };
     let mut keys = BTreeSet::new();

@@ -2,11 +2,13 @@
 
 mod accrued;
 mod beginnings;
+mod cases;
 mod counts;
 mod difference;
 mod guarded;
 mod history;
 mod lent;
+mod lookups;
 mod pair;
 mod replayed;
 mod short;
@@ -30,12 +32,16 @@ const CALLS_PER_LENT_ROUND: u64 = 1_000;
 /// And every so many calls one round of accrued queries.
 const CALLS_PER_ACCRUED_ROUND: u64 = 2_500;
 
+/// And every so many one round of lookups.
+const CALLS_PER_LOOKUPS_ROUND: u64 = 5_000;
+
 /// A part of the work that stands by itself.
 enum Job {
     Beginnings,
     Short { book: usize },
     Lent { seed: u64 },
     Accrued { seed: u64 },
+    Lookups { seed: u64 },
     History { seed: u64, most: usize },
 }
 
@@ -48,6 +54,7 @@ impl Job {
             Job::Short { book } => short::run(book, counts),
             Job::Lent { seed } => lent::run(seed, counts),
             Job::Accrued { seed } => accrued::run(seed, counts),
+            Job::Lookups { seed } => lookups::run(seed, counts),
             Job::History { seed, most } => history::run(seed, most, counts),
         }?;
         Ok(counts.calls() - before)
@@ -61,6 +68,7 @@ fn jobs(calls: u64, seed: u64) -> (Vec<Job>, u64) {
     let seeds = |rounds: u64| (0..=rounds).map(move |round| seed.wrapping_add(round));
     jobs.extend(seeds(calls / CALLS_PER_LENT_ROUND).map(|seed| Job::Lent { seed }));
     jobs.extend(seeds(calls / CALLS_PER_ACCRUED_ROUND).map(|seed| Job::Accrued { seed }));
+    jobs.extend(seeds(calls / CALLS_PER_LOOKUPS_ROUND).map(|seed| Job::Lookups { seed }));
     let (mut left, mut next) = (calls, seed);
     while left > 0 {
         let most = left.min(history::calls(next) as u64);
@@ -85,9 +93,11 @@ fn main() -> ExitCode {
             return ExitCode::FAILURE;
         }
     };
-    if let Some(case) = counts.accrued.missed() {
-        eprintln!("compare: there was no accrued query {case}");
-        return ExitCode::FAILURE;
+    for (kind, missed) in [("accrued query", counts.accrued.missed()), ("lookup", counts.lookups.missed())] {
+        if let Some(case) = missed {
+            eprintln!("compare: there was no {kind} {case}");
+            return ExitCode::FAILURE;
+        }
     }
     println!(
         "{} calls, of which {} in histories of seeds {seed} to {}; {} s; 0 differences\n\n{counts}",

@@ -4,8 +4,9 @@ use crate::accrued::Accrued;
 use crate::counts::Counts;
 use crate::difference::{same, same_as_plain, same_words, Difference};
 use crate::guarded::Guarded;
+use crate::lookups::Looked;
 use crate::words::Words;
-use oracle::{Answer, Books, Code, Desk, Question, Record, Way};
+use oracle::{lookup_words, Answer, Books, Code, Desk, Lookup, Question, Record, Tables, Way};
 use proved::Query;
 
 /// What lent memory and its guards hold before a call.
@@ -40,6 +41,10 @@ impl Pair {
             Desk::Good(engine) => Some(engine.books()),
             Desk::Bad(_) => None,
         }
+    }
+
+    pub fn tables(&self) -> Tables {
+        self.desk.tables()
     }
 
     pub fn words(&self) -> &Words {
@@ -77,6 +82,25 @@ impl Pair {
             counts.accrued.count(&accrued);
         }
         counts.query(query.kind, &told);
+        Ok(())
+    }
+
+    /// Looks a row up on both sides and counts it.
+    pub fn look_up(&mut self, lookup: Lookup, counts: &mut Counts) -> Result<(), Difference> {
+        let told = self.desk.look_up(&lookup);
+        let wanted = lookup_words(&told);
+        let mut answer = Guarded::new(&[FILL; 4], FILL);
+        let lent = [&*self.stakes, &self.offers, &self.books];
+        let code = match lookup {
+            Lookup::Stake { pool, account } => proved::look_up_stake(lent, pool, account, &mut answer),
+            Lookup::Offer { pool, offer } => proved::look_up_offer(lent, pool, offer, &mut answer),
+        };
+        let what = format!("{lookup:?}");
+        same(&what, &wanted[..], &answer)?;
+        same(&what, wanted[0], code.into())?;
+        same("the guards of a lookup's answer", true, answer.intact())?;
+        self.same_tables()?;
+        counts.lookups.count(&Looked { lookup, told });
         Ok(())
     }
 

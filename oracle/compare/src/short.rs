@@ -9,7 +9,7 @@ use crate::difference::{Difference, Failure};
 use crate::pair::Pair;
 use crate::words::Words;
 use oracle::limits::{FLAT, GREATEST_RATE, LAST_TIME, LIMIT, POOLS};
-use oracle::{parse_tables, Code, Record};
+use oracle::{parse_tables, Code, Lookup, Record};
 use proved::Query;
 
 /// Books that each call begins from, and what has been compared on them.
@@ -29,7 +29,8 @@ pub fn run(book: usize, counts: &mut Counts) -> Result<(), Box<Failure>> {
     bench.every_byte_of_the_kind()?;
     bench.every_limit()?;
     bench.every_single_byte_change()?;
-    bench.every_query()
+    bench.every_query()?;
+    bench.every_lookup()
 }
 
 /// A call of the operation in the pool that has all it needs and nothing more. Any other operation has every field.
@@ -170,6 +171,18 @@ impl Bench<'_> {
                         let asked = self.pair.ask(query, self.counts);
                         asked.map_err(|difference| self.failure(vec![], difference))?;
                     }
+                }
+            }
+        }
+        Ok(())
+    }
+
+    fn every_lookup(&mut self) -> Result<(), Box<Failure>> {
+        for pool in [0, 1, 2, 3, 4, 256, 257, (1 << 32) + 1, u64::MAX] {
+            for number in [0, 1, 4, 5, 6, 7, 8, 9, 1 << 63, u64::MAX] {
+                for lookup in [Lookup::Stake { pool, account: number }, Lookup::Offer { pool, offer: number }] {
+                    let looked = self.pair.look_up(lookup, self.counts);
+                    looked.map_err(|difference| self.failure(vec![], difference))?;
                 }
             }
         }

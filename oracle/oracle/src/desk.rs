@@ -1,7 +1,8 @@
-//! Calls and queries on any tables, well formed or not.
+//! Calls, queries and lookups on any tables, well formed or not.
 
 use crate::answer::{Answer, Code};
 use crate::engine::Engine;
+use crate::lookup::{Found, Lookup};
 use crate::operation::Operation;
 use crate::question::Question;
 use crate::record::Record;
@@ -32,6 +33,14 @@ impl Desk {
             Desk::Good(engine) => engine.ask(question),
             Desk::Bad(_) if question.malformed() => Answer::refusal(Code::Malformed),
             Desk::Bad(_) => Answer::refusal(Code::BadTables),
+        }
+    }
+
+    pub fn look_up(&self, lookup: &Lookup) -> Result<Found, Code> {
+        match self {
+            _ if lookup.malformed() => Err(Code::Malformed),
+            Desk::Good(engine) => Ok(Found::among(&lookup.keys(&engine.tables()), lookup.key())),
+            Desk::Bad(_) => Err(Code::BadTables),
         }
     }
 

@@ -1,8 +1,8 @@
 //! The oracle's command.
 
 use oracle::{
-    parse_questions, parse_tables, print_replay, print_tables, random_log, read_log, write_log, Desk, Engine, Log,
-    Rooms,
+    parse_lookups, parse_questions, parse_tables, print_found, print_replay, print_tables, random_log, read_log,
+    write_log, Desk, Engine, Log, Rooms,
 };
 use std::io::{self, Write};
 use std::process::ExitCode;
@@ -12,6 +12,7 @@ const USAGE: &str = "usage:
   oracle replay LOG [--rooms S O | --tables FILE]         the answers, as the replay program prints them
   oracle tables LOG [--rooms S O | --tables FILE]         the tables after the log
   oracle ask LOG QUESTIONS [--rooms S O | --tables FILE]  the answers to questions after the log
+  oracle find LOG LOOKUPS [--rooms S O | --tables FILE]   the places of rows after the log, and how many rows are read
   oracle random SEED COUNT [--rooms S O]                  a random log
   oracle write TEXT                                       the log of a text
   oracle read LOG                                         the text of a log";
@@ -41,6 +42,10 @@ fn run(arguments: &[&str]) -> Result<Vec<u8>, String> {
         ["ask", log, questions, options @ ..] => after(log, options, |_, desk| {
             let questions = parse_questions(&read_text(questions)?)?;
             Ok(questions.iter().map(|question| desk.ask(question).to_string()).collect())
+        }),
+        ["find", log, lookups, options @ ..] => after(log, options, |_, desk| {
+            let lookups = parse_lookups(&read_text(lookups)?)?;
+            Ok(lookups.iter().map(|lookup| print_found(&desk.look_up(lookup))).collect())
         }),
         ["random", seed, count, options @ ..] => {
             let (seed, count) = (parse(seed)?, parse(count)? as usize);

@@ -6,6 +6,9 @@ use pasumorip::face;
 /// Stakes, offers and books.
 pub type Lent<'a> = [&'a mut [u64]; 3];
 
+/// The same, to be read.
+pub type Shown<'a> = [&'a [u64]; 3];
+
 pub use face::Question as Query;
 
 fn lent([stakes, offers, books]: Lent) -> face::Lent {
@@ -24,8 +27,20 @@ pub fn apply(tables: Lent, record: &[u8], answer: &mut [u64]) -> u8 {
     face::apply(lent(tables), record, answer)
 }
 
-pub fn query([stakes, offers, books]: [&[u64]; 3], query: Query, answer: &mut [u64]) -> u8 {
-    face::query(face::Shown { stakes, offers, books }, query, answer)
+fn shown([stakes, offers, books]: Shown) -> face::Shown {
+    face::Shown { stakes, offers, books }
+}
+
+pub fn query(tables: Shown, query: Query, answer: &mut [u64]) -> u8 {
+    face::query(shown(tables), query, answer)
+}
+
+pub fn look_up_stake(tables: Shown, pool: u64, account: u64, answer: &mut [u64]) -> u8 {
+    face::look_up_stake(shown(tables), pool, account, answer)
+}
+
+pub fn look_up_offer(tables: Shown, pool: u64, offer: u64, answer: &mut [u64]) -> u8 {
+    face::look_up_offer(shown(tables), pool, offer, answer)
 }
 
 pub fn replay(tables: Lent, records: &[u8], text: &mut [u8], progress: &mut [u64]) -> u8 {

@@ -1,8 +1,8 @@
 //! A few rounds find each slip of the accrued sum and meet every case, so that a run without a difference says something.
 
 use super::aims::{round, Aimed};
-use super::cases::Cases;
 use super::plain::{within_limits, Accrued, Row, DENOMINATOR};
+use crate::cases::Cases;
 use crate::pair::question;
 use oracle::limits::LIMIT;
 

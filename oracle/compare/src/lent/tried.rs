@@ -3,6 +3,7 @@
 use super::{good, spoil, KINDS};
 use crate::counts::Counts;
 use crate::difference::{same, Difference, Failure};
+use crate::lookups::few;
 use crate::pair::Pair;
 use crate::replayed;
 use crate::shrink::fewest;
@@ -12,7 +13,8 @@ use proved::Query;
 
 /// A round tries every kind of bad tables once, and some with words changed at random.
 pub fn run(seed: u64, counts: &mut Counts) -> Result<(), Box<Failure>> {
-    let mut rng = Rng(seed);
+    // Lookups have draws of their own, so that a seed stands for the same calls and queries without them.
+    let (mut rng, mut seeker) = (Rng(seed), Rng(!seed));
     let full = rng.one_in(8);
     let rooms = match rng.below(8) {
         0 => Rooms::FULL,
@@ -24,7 +26,7 @@ pub fn run(seed: u64, counts: &mut Counts) -> Result<(), Box<Failure>> {
         change(&mut rng, &mut words);
         assert!(words.tables().is_none_or(|tables| !tables.well_formed()), "'{name}' of seed {seed} is well formed");
         counts.lent(name);
-        tried(&mut rng, words, seed, name, counts)?;
+        tried([&mut rng, &mut seeker], words, seed, name, counts)?;
     }
     for _ in 0..KINDS.len() {
         let mut words = base.clone();
@@ -33,15 +35,22 @@ pub fn run(seed: u64, counts: &mut Counts) -> Result<(), Box<Failure>> {
         let name =
             if fine { "words changed at random, well formed" } else { "words changed at random, not well formed" };
         counts.lent(name);
-        tried(&mut rng, words, seed, name, counts)?;
+        tried([&mut rng, &mut seeker], words, seed, name, counts)?;
     }
     Ok(())
 }
 
-fn tried(rng: &mut Rng, words: Words, seed: u64, name: &str, counts: &mut Counts) -> Result<(), Box<Failure>> {
+fn tried(
+    [rng, seeker]: [&mut Rng; 2],
+    words: Words,
+    seed: u64,
+    name: &str,
+    counts: &mut Counts,
+) -> Result<(), Box<Failure>> {
     let mut records = Vec::new();
     let mut pair = Pair::over(words.clone());
     calls_and_queries(rng, &mut pair, &mut records, counts)
+        .and_then(|()| lookups(seeker, &mut pair, counts))
         .and_then(|()| refusals(&words, pair.books().is_some()))
         .map_err(|difference| {
             let (records, difference) = fewest(&words, records, difference);
@@ -102,6 +111,10 @@ fn calls_and_queries(
     Ok(())
 }
 
+fn lookups(rng: &mut Rng, pair: &mut Pair, counts: &mut Counts) -> Result<(), Difference> {
+    few(rng, &pair.tables()).into_iter().try_for_each(|lookup| pair.look_up(lookup, counts))
+}
+
 /// Replays and calls that are refused whole: bad tables, and records, answers or progress of another length. Only an answer that has its length
 /// is written.
 fn refusals(words: &Words, well_formed: bool) -> Result<(), Difference> {
@@ -130,6 +143,14 @@ fn refusals(words: &Words, well_formed: bool) -> Result<(), Difference> {
         let code = proved::query([&words.stakes, &words.offers, &words.books], query, &mut answer);
         same("a query of another length", Code::Malformed as u8, code)?;
         same("what it has written", vec![9; answer_words], answer)?;
+    }
+    for answer_words in [0, 1, 3, 5, 9] {
+        for look_up in [proved::look_up_stake, proved::look_up_offer] {
+            let mut answer = vec![9; answer_words];
+            let code = look_up([&words.stakes, &words.offers, &words.books], 0, 7, &mut answer);
+            same("a lookup of another length", Code::Malformed as u8, code)?;
+            same("what it has written", vec![9; answer_words], answer)?;
+        }
     }
     Ok(())
 }

@@ -24,6 +24,25 @@ pub fn pair(word: &str) -> Result<(&str, &str), String> {
     word.split_once('=').ok_or_else(|| format!("not of the form name=value: {word}"))
 }
 
+/// A line's first word, and its fields.
+pub struct Fields<'a> {
+    pub name: &'a str,
+    fields: Vec<(&'a str, &'a str)>,
+}
+
+impl<'a> Fields<'a> {
+    pub fn of(line: &'a str) -> Result<Fields<'a>, String> {
+        let mut words = line.split_whitespace();
+        let name = words.next().unwrap_or("");
+        Ok(Fields { name, fields: words.map(pair).collect::<Result<_, _>>()? })
+    }
+
+    pub fn get<T: FromStr>(&self, wanted: &str) -> Result<T, String> {
+        let found = self.fields.iter().find(|(field, _)| *field == wanted);
+        found.map_or(Err(format!("{} needs {wanted}", self.name)), |(_, value)| number(value))
+    }
+}
+
 pub fn hex(text: &str) -> Result<Vec<u8>, String> {
     let byte = |at: usize| text.get(at..at + 2).and_then(|two| u8::from_str_radix(two, 16).ok());
     (0..text.len()).step_by(2).map(byte).collect::<Option<_>>().ok_or_else(|| format!("not bytes in hex: {text}"))

@@ -1,7 +1,7 @@
 //! Questions, one per line: `stake pool=1 account=7`, `accrued pool=1 account=7 now=5`, `pool pool=1`, `count pool=1`,
 //! `offer pool=1 offer=12`.
 
-use super::fields::{lines, number, pair};
+use super::fields::{lines, Fields};
 use crate::question::Question;
 
 pub fn parse_questions(text: &str) -> Result<Vec<Question>, String> {
@@ -9,20 +9,15 @@ pub fn parse_questions(text: &str) -> Result<Vec<Question>, String> {
 }
 
 fn parse(line: &str) -> Result<Question, String> {
-    let mut words = line.split_whitespace();
-    let name = words.next().unwrap_or("");
-    let fields: Vec<(&str, &str)> = words.map(pair).collect::<Result<_, _>>()?;
-    let get = |wanted: &str| {
-        let found = fields.iter().find(|(field, _)| *field == wanted);
-        found.map_or(Err(format!("{name} needs {wanted}")), |(_, value)| number(value))
-    };
+    let fields = Fields::of(line)?;
+    let get = |wanted: &str| fields.get(wanted);
     let pool = get("pool")?;
-    match name {
+    match fields.name {
         "stake" => Ok(Question::Stake { pool, account: get("account")? }),
         "accrued" => Ok(Question::Accrued { pool, account: get("account")?, now: get("now")? }),
         "pool" => Ok(Question::Pool { pool }),
         "count" => Ok(Question::Count { pool }),
         "offer" => Ok(Question::Offer { pool, offer: get("offer")? }),
-        _ => Err(format!("no question {name}")),
+        name => Err(format!("no question {name}")),
     }
 }
