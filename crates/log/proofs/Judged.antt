@@ -3,7 +3,7 @@
 use mathlib.Core.Path.{_≡_, refl, sym, ap, _∙_}
 use mathlib.Core.Bool.{Bool, true, false, not, cond, _&&_, and-true, and-false}
 use mathlib.Core.List.{List, [], _∷_, map}
-use Prim.Native.Nat.{ℕ, zero, suc}
+use Prim.Native.Nat.{ℕ}
 use lib.Dec.{leb, eqb}
 use lib.IntN.{pos}
 use lib.ListN.{getD}
@@ -17,10 +17,11 @@ use Rattle.rules.specs.declared.Operation.the-variants.{Unknown}
 use Rattle.rules.specs.declared.Entry.{Entry}
 use Rattle.log.specs.Records.{recordAt, byNumber, spare, sparesNil, operationOf, recordOf}
 use Rattle.log.specs.Malformed.{recordTests}
+use Rattle.log.proofs.SideBySide.{side-at}
 
 -- ---- a field: its need is that it is 0 where it is not in use, and what the case that is read meets
 
-abbrev kept : {A : Type 0} → A → Need A → A → A
+abbrev pub kept : {A : Type 0} → A → Need A → A → A
 kept o unused x = o
 kept o (used test) x = x
 
@@ -30,8 +31,8 @@ met nil o z (used test) x = refl
 
 -- ---- an entry: the same, of its five fields
 
-abbrev keptBy : Line → Entry → Entry
-keptBy l e = entry (e .number) (kept 0 (l .pool) (e .pool)) (kept 0 (l .subject) (e .subject)) (kept 0 (l .other) (e .other)) (kept 0 (l .reply) (e .reply)) (kept (pos 0) (l .amount) (e .amount))
+abbrev pub keptBy : ℕ → Line → Entry → Entry
+keptBy number l e = entry number (kept 0 (l .pool) (e .pool)) (kept 0 (l .subject) (e .subject)) (kept 0 (l .other) (e .other)) (kept 0 (l .reply) (e .reply)) (kept (pos 0) (l .amount) (e .amount))
 
 both : (pairs : List (Bool × Bool)) → all (map (λ (p : Bool × Bool). p .0 && p .1) pairs) ≡ (all (map (λ (p : Bool × Bool). p .0) pairs) && all (map (λ (p : Bool × Bool). p .1) pairs))
 unfolding each
@@ -43,9 +44,9 @@ both ((false, t) ∷ pairs) = refl
 abbrev nil : ℕ → Bool
 nil n = eqb n 0
 
-line-met : (l : Line) (e : Entry) → all (lineTests l e) ≡ (sparesNil l e && all (lineTests l (keptBy l e)))
+line-met : (l : Line) (e : Entry) → all (lineTests l e) ≡ (sparesNil l e && all (lineTests l (keptBy (e .number) l e)))
 line-met l e =
-    let k = keptBy l e in
+    let k = keptBy (e .number) l e in
     (λ i. all (met nil 0 refl (l .pool) (e .pool) i ∷ met nil 0 refl (l .subject) (e .subject) i ∷ met nil 0 refl (l .other) (e .other) i ∷ met nil 0 refl (l .reply) (e .reply) i ∷ met isZero (pos 0) refl (l .amount) (e .amount) i ∷ []))
     ∙ both
     ((spare nil (l .pool) (e .pool), meets nil (l .pool) (k .pool))
@@ -55,25 +56,12 @@ line-met l e =
     ∷ (spare isZero (l .amount) (e .amount), meets isZero (l .amount) (k .amount))
     ∷ [])
 
--- ---- each line and its case, side by side
-
-abbrev Side : {A B : Type 0} → (A → B → Type 0) → List A → List B → Type 0
-Side P [] [] = Unit {0}
-Side P [] (y ∷ ys) = ⊥
-Side P (x ∷ xs) [] = ⊥
-Side P (x ∷ xs) (y ∷ ys) = P x y × Side P xs ys
-
-side-at : {A B : Type 0} (P : A → B → Type 0) (x : A) (y : B) → P x y → (xs : List A) (ys : List B) → Side P xs ys → (n : ℕ) → P (getD xs n x) (getD ys n y)
-side-at P x y p [] [] s n = p
-side-at P x y p [] (b ∷ ys) s n = absurd s
-side-at P x y p (a ∷ xs) [] s n = absurd s
-side-at P x y p (a ∷ xs) (b ∷ ys) s zero = s .0
-side-at P x y p (a ∷ xs) (b ∷ ys) s (suc n) = side-at P x y p xs ys (s .1) n
+-- ---- each line and its case
 
 -- the case has the line's fields in use, and 0 for the others
-case-met : (e : Entry) (n : ℕ) → all (lineTests (lineOf n) (keptBy (lineOf n) e)) ≡ all (fieldTests (getD (byNumber e) n Unknown))
+case-met : (e : Entry) (n : ℕ) → all (lineTests (lineOf n) (keptBy n (lineOf n) e)) ≡ all (fieldTests (getD (byNumber e) n Unknown))
 unfolding byNumber each
-case-met e n = side-at (λ (l : Line) (o : Operation). all (lineTests l (keptBy l e)) ≡ all (fieldTests o)) none Unknown refl operations (byNumber e) (refl, (refl, (refl, (refl, (refl, (refl, (refl, (refl, (refl, (refl, tt)))))))))) n
+case-met e n = side-at (λ (k : ℕ) (l : Line) (o : Operation). all (lineTests l (keptBy k l e)) ≡ all (fieldTests o)) none Unknown (λ k. refl) operations (byNumber e) (refl, (refl, (refl, (refl, (refl, (refl, (refl, (refl, (refl, (refl, tt)))))))))) n
 
 -- ---- a record
 
@@ -82,7 +70,7 @@ unfolding each
 only-if true o = refl
 only-if false o = refl
 
-operation-met : (e : Entry) → all (fieldTests (operationOf e)) ≡ all (entryTests e)
+pub operation-met : (e : Entry) → all (fieldTests (operationOf e)) ≡ all (entryTests e)
 unfolding operationOf
 operation-met e =
     let l = lineOf (e .number) in
@@ -90,7 +78,7 @@ operation-met e =
     only-if (sparesNil l e) o ∙ ap (λ (t : Bool). sparesNil l e && t) (sym (case-met e (e .number))) ∙ sym (line-met l e)
 
 -- z: the five bytes are 0; n, s: the tests of time and signer
-in-all : (z n s : Bool) (o : Operation) (tests : List Bool) → all (fieldTests o) ≡ all tests → all (n ∷ s ∷ fieldTests (cond z o Unknown)) ≡ all (z ∷ n ∷ s ∷ tests)
+pub in-all : (z n s : Bool) (o : Operation) (tests : List Bool) → all (fieldTests o) ≡ all tests → all (n ∷ s ∷ fieldTests (cond z o Unknown)) ≡ all (z ∷ n ∷ s ∷ tests)
 unfolding each
 in-all true n s o tests h = ap (λ (t : Bool). cond n (cond s t false) false) h
 in-all false true true o tests h = refl

@@ -1,6 +1,6 @@
--- Bytes as numbers.
+-- Bytes as numbers, and numbers as bytes.
 use mathlib.Core.List.{List, [], _∷_}
-use Prim.Native.Nat.{ℕ, _+_, _*_}
+use Prim.Native.Nat.{ℕ, zero, suc, _+_, _*_, _/_, _%_, _<_}
 use lib.ListN.{getD}
 
 -- "Little-endian": the number of some bytes, the least first
@@ -17,3 +17,12 @@ abbrev pub wordAt : List ℕ → ℕ → ℕ
 wordAt s i =
     littleEndian
     (byteAt s i ∷ byteAt s (i + 1) ∷ byteAt s (i + 2) ∷ byteAt s (i + 3) ∷ byteAt s (i + 4) ∷ byteAt s (i + 5) ∷ byteAt s (i + 6) ∷ byteAt s (i + 7) ∷ [])
+
+-- and back: the k least bytes of a number, the least first
+abbrev pub bytesOf : ℕ → ℕ → List ℕ
+bytesOf zero n = []
+bytesOf (suc k) n = n % 256 ∷ bytesOf k (n / 256)
+
+-- bytes, as a lent slice of them is
+abbrev pub AreBytes : List ℕ → Type 0
+AreBytes s = (i : ℕ) → byteAt s i < 256

@@ -8,6 +8,7 @@ use mir.Syntax.{w64}
 use mir.Val.{toZ}
 use Rattle.rules.specs.Table.{all}
 use Rattle.rules.specs.Books.{isZero}
+use Rattle.rules.specs.declared.Account.{Account}
 use Rattle.rules.specs.declared.StakeCall.{StakeCall}
 use Rattle.rules.specs.declared.PayCall.{PayCall}
 use Rattle.rules.specs.declared.ReserveCall.{ReserveCall}
@@ -97,6 +98,10 @@ sparesNil l e =
 
 unfoldable pub operationOf : Entry → Operation
 operationOf e = cond (sparesNil (lineOf (e .number)) e) (getD (byNumber e) (e .number) Unknown) Unknown
+
+-- the call of an entry that is given field by field
+abbrev pub callOf : ℕ → Account → Entry → Call
+callOf now signer e = record { now = now; signer = signer; operation = operationOf e }
 
 -- the call of the record that begins at byte i; "five zero bytes (else Malformed)"
 unfoldable pub recordOf : List ℕ → ℕ → Call

@@ -1,5 +1,5 @@
 -- Document 01's sample, "Admin 1, then a Balanced stake of 2,000,000 by 7, a withdrawal of 3,000,000 by 7, and a stake of 999,999 by 8", as
--- one statement: its head, its first record and the text that it prints. The proof is by computation.
+-- one statement: its head, its first record, both ways, and the text that it prints. The proof is by computation.
 use mathlib.Core.Path.{_≡_}
 use mathlib.Core.List.{List, [], _∷_, _++_}
 use Prim.Native.Nat.{ℕ}
@@ -9,6 +9,7 @@ use Rattle.rules.specs.declared.Operation.the-variants.{Stake}
 use Rattle.log.specs.declared.header.Head.the-variants.{Admin}
 use Rattle.log.specs.Opening.{headOf}
 use Rattle.log.specs.Records.{recordOf}
+use Rattle.log.specs.Writer.{headText, recordText}
 use Rattle.log.specs.Decimal.{signedDecimal}
 use Rattle.log.specs.Lines.{openingText, answerText, endingText}
 
@@ -27,6 +28,9 @@ sampleRecord =
 pub record Sample : Type 0 where
   pub head : headOf sampleHead ≡ Admin (record { 0 = 1 })
   pub first : recordOf sampleRecord 0 ≡ record { now = 5; signer = record { 0 = 7 }; operation = Stake (record { pool = 1; staker = record { 0 = 7 }; amount = pos 2_000_000 }) }
+  -- and as they are written (request W-201)
+  pub head-written : headText (record { 0 = 1 }) ≡ sampleHead
+  pub first-written : recordText (record { now = 5; signer = record { 0 = 7 }; operation = Stake (record { pool = 1; staker = record { 0 = 7 }; amount = pos 2_000_000 }) }) ≡ sampleRecord
   pub printed : openingText ++ answerText 1 (done (pos 0) (pos 0) (transferIn (record { 0 = 7 }) 2_000_000) noTransfer) ++ answerText 2 (refusal 9) ++ answerText 3 (refusal 6) ++ endingText 3 0
       ≡ (80 ∷ 79 ∷ 76 ∷ 32 ∷ 49 ∷ 10
       ∷ 49 ∷ 32 ∷ 48 ∷ 32 ∷ 48 ∷ 32 ∷ 48 ∷ 10

@@ -12,15 +12,17 @@ use rules::RateCall;
 use rules::ReserveCall;
 use rules::StakeCall;
 ghost use mathlib.Core.Path.{_≡_};
-ghost use mathlib.Core.Bool.{cond};
+ghost use mathlib.Core.Bool.{false, cond};
 ghost use mathlib.Core.List.{[], _∷_};
 ghost use Prim.Native.Nat.{_+_, _≤_};
 ghost use lib.Dec.{eqb};
-ghost use lib.ListN.{length};
+ghost use lib.ListN.{length, take, drop};
 ghost use Rattle.rules.specs.Table.{all};
 ghost use Rattle.rules.specs.Books.{isZero};
+ghost use Rattle.rules.specs.Step.{malformed};
 ghost use Rattle.rules.specs.declared.Operation.the-variants.{Unknown};
 ghost use Rattle.log.specs.Records.{recordAt, stakeCall, payCall, reserveCall, claimCall, rateCall, operationOf, recordBytes, recordOf};
+ghost use Rattle.log.specs.Writer.{recordText};
 
 // The bytes of a record.
 pub const RECORD: usize = 48;
@@ -120,7 +122,7 @@ fn known_if(test: bool, operation: Operation) -> Operation
 }
 
 // The case of an operation number, with the fields that it does not use tested.
-fn operation_of(e: Entry) -> Operation
+pub fn operation_of(e: Entry) -> Operation
     ensures { λ r. ⌜ r ≡ operationOf e ⌝ }
 {
     let number = e.number;
@@ -143,9 +145,11 @@ fn operation_of(e: Entry) -> Operation
     }
 }
 
+// A call that is not Malformed is written as the bytes that it was read from.
 pub fn read_record(bytes: &[u8], at: usize) -> Call
     requires { ⌜ at + recordBytes ≤ length (now bytes) ⌝ }
     ensures { λ r. ⌜ r ≡ recordOf (now (bytes .entry)) at ⌝ }
+    ensures { λ r. ⌜ (malformed r ≡ false → recordText r ≡ take recordBytes (drop at (now (bytes .entry)))) ⌝ }
 {
     let r = record_at(bytes, at);
     Call {

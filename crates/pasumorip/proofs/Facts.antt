@@ -1,6 +1,6 @@
 -- What the face's contracts rest on: words written one by one, codes that fit a byte, and each answer by the lengths that were lent.
 use mathlib.Core.Path.{_≡_, refl, sym, ap, _∙_}
-use mathlib.Core.Bool.{true, false}
+use mathlib.Core.Bool.{Bool, true, false}
 use mathlib.Core.List.{List, [], _∷_, _++_, append-nil}
 use Prim.Native.Nat.{ℕ, zero, suc, _≤_, _<_}
 use native.Mathlib.Omega.{arith}
@@ -15,7 +15,10 @@ use Rattle.rules.specs.declared.Call.{Call}
 use Rattle.rules.proofs.Tests.{cases}
 use Rattle.books.specs.Words.{Tables, booksOf, goodTables, result, stepWords}
 use Rattle.books.proofs.Carried.{words-coded}
+use Rattle.log.specs.declared.writer.WriteAnswer.{WriteAnswer}
 use Rattle.log.specs.Records.{recordBytes, recordOf}
+use Rattle.log.specs.Writer.{WriteOutcome, after, writes}
+use Rattle.log.proofs.Writes.{writes-coded}
 use Rattle.history.specs.declared.Progress.{Progress}
 use Rattle.history.specs.Replays.{partRun, replayed}
 use Rattle.queries.specs.Queries.{queryWords}
@@ -99,3 +102,8 @@ module _ (t : Tables) (records text progress : List ℕ) where
       pub replay-good : goodTables t ≡ true → (p : Progress) (u : Tables) (after words : List ℕ) → partRun p u after ≡ replayed t records text (getD progress 0 0) → words ≡ progressWords p → resumed 0 u after words ≡ replayedFrom t records text progress
       unfolding replayedFrom
       replay-good g p u after words e w = rw (eq-eqb (length progress) progressLength l, le-leb (getD progress 0 0) mostBefore h, g, w, sym e) refl
+
+-- ---- a write
+
+pub write-coded : (bad : Bool) (s : List ℕ) (at : ℕ) (text : List ℕ) (r : WriteAnswer) (buffer : List ℕ) → after r buffer ≡ writes bad s at text → r .code ≤ 11
+write-coded bad s at text r buffer e = rw (ap (λ (w : WriteOutcome). w .answer .code) e) (writes-coded bad s at text)

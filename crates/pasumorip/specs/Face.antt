@@ -10,10 +10,12 @@ use Rattle.rows.specs.declared.Place.{Place}
 use Rattle.rows.specs.declared.Place.the-variants.{At, Gap}
 use Rattle.rules.specs.declared.Account.{Account}
 use Rattle.rules.specs.declared.Offer.{Offer}
+use Rattle.rules.specs.declared.Entry.{Entry}
 use Rattle.rules.specs.declared.Answer.{Answer}
 use Rattle.rules.specs.Answers.{refusal, Malformed, BadTables}
 use Rattle.books.specs.Words.{Tables, booksOf, goodTables, stepWords}
-use Rattle.log.specs.Records.{recordBytes, recordOf}
+use Rattle.log.specs.Records.{recordBytes, callOf, recordOf}
+use Rattle.log.specs.Writer.{WriteOutcome, writeHead, writeRecord}
 use Rattle.history.specs.declared.Progress.{Progress}
 use Rattle.history.specs.Replays.{replayed}
 use Rattle.queries.specs.Queries.{queryWords}
@@ -127,3 +129,22 @@ replayedFrom t records text progress =
     cond (eqb (length progress) progressLength && leb (getD progress 0 0) mostBefore)
     (cond (goodTables t) (resumed 0 (o .tables) (o .text) (progressWords (o .progress))) (resumed BadTables t text progress))
     (resumed Malformed t text progress)
+
+-- ---- a write: its code, and the buffer after it. A head has 16 bytes and a record 48, so that the code tells how many were written
+
+pub record Buffered : Type 0 where
+  pub code : ℕ
+  pub buffer : List ℕ
+
+abbrev pub buffered : ℕ → List ℕ → Buffered
+buffered code buffer = record { code = code; buffer = buffer }
+
+abbrev pub shown : WriteOutcome → Buffered
+shown w = buffered (w .answer .code) (w .buffer)
+
+unfoldable pub headWritten : List ℕ → ℕ → Account → Buffered
+headWritten buffer at admin = shown (writeHead buffer at admin)
+
+-- from the fields that a record has
+unfoldable pub recordWritten : List ℕ → ℕ → ℕ → Account → Entry → Buffered
+recordWritten buffer at now signer fields = shown (writeRecord buffer at (callOf now signer fields))

@@ -11,16 +11,19 @@ use crate::words::tell_progress;
 use crate::words::tell_two;
 use log::RECORD;
 use rules::Account;
+use rules::Call;
+use rules::Entry;
 use rules::Offer;
 use rules::codes;
 use rules::refuse;
 ghost use mathlib.Core.Path.{_≡_};
 ghost use Rattle.rules.specs.Terms.{assessRisk};
 ghost use Rattle.rules.specs.Calls.{accountNo, offerNo};
+ghost use Rattle.rules.specs.Operations.{entry};
 ghost use Rattle.books.specs.Words.{tables};
 ghost use Rattle.books.specs.Fresh.{renewed, freshWords};
 ghost use Rattle.history.specs.Beginning.{opened};
-ghost use Rattle.pasumorip.specs.Face.{answered, applied, queried, questioned, stakeLookedUp, offerLookedUp, resumed, replayedFrom};
+ghost use Rattle.pasumorip.specs.Face.{answered, applied, queried, questioned, stakeLookedUp, offerLookedUp, resumed, replayedFrom, buffered, headWritten, recordWritten};
 
 const MALFORMED: u8 = codes::MALFORMED as u8;
 
@@ -162,4 +165,46 @@ pub extern "C" fn pasumorip_assess_risk(age: u64, repayments: u32, defaults: u32
     ensures { λ r. ⌜ r ≡ assessRisk age repayments defaults amount ⌝ }
 {
     rules::assess_risk(age, repayments, defaults, amount) as u8
+}
+
+// The head of an admin's log, written into a lent buffer from `at` on.
+#[no_mangle]
+pub extern "C" fn pasumorip_write_head(buffer: &mut [u8], at: usize, admin: u64) -> u8
+    ensures { λ r. ⌜ buffered r (now (buffer .exit)) ≡ headWritten (now (buffer .entry)) at (accountNo admin) ⌝ }
+{
+    let written = log::write_head(buffer, at, Account(admin));
+    written.code as u8
+}
+
+// A call's record, likewise, from the fields that a record has.
+#[no_mangle]
+pub extern "C" fn pasumorip_write_record(
+    buffer: &mut [u8],
+    at: usize,
+    operation: u64,
+    pool: u64,
+    reply: u64,
+    time: u64,
+    signer: u64,
+    subject: u64,
+    other: u64,
+    amount: i64,
+) -> u8
+    ensures { λ r. ⌜ buffered r (now (buffer .exit)) ≡ recordWritten (now (buffer .entry)) at time (accountNo signer) (entry operation pool subject other reply amount) ⌝ }
+{
+    let fields = Entry {
+        number: operation,
+        pool,
+        subject,
+        other,
+        reply,
+        amount,
+    };
+    let call = Call {
+        now: time,
+        signer: Account(signer),
+        operation: log::operation_of(fields),
+    };
+    let written = log::write_record(buffer, at, call);
+    written.code as u8
 }

@@ -10,11 +10,11 @@ unfolding opened
 returns c =
     let freshly = c .before .before .before .before .before .before in
     let named = freshly .before .before .before .before .before in
-    rw (sym (named .before .before .read-head .ensures) ∙ named .admin .given .1) (freshly .fresh .ensures)
+    rw (sym (named .before .before .read-head .ensures .0) ∙ named .admin .given .1) (freshly .fresh .ensures)
 
 returns-2 : tie.Need-returns-2
 unfolding opened
-returns-2 c = rw (sym (c .before .before .read-head .ensures) ∙ c .enum-told .given .1) refl
+returns-2 c = rw (sym (c .before .before .read-head .ensures .0) ∙ c .enum-told .given .1) refl
 
 pub begin-spec : {M : Type 1} → statement M
 begin-spec =

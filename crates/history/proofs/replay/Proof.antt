@@ -80,7 +80,7 @@ loop-again c =
     let i = l .loop .inv in
     let act = made w .act in
     let write = w .write-answer in
-    let stepped = act .ensures ∙ ap (stepWords (here l)) (made w .before .before .before .before .read-record .ensures) in (
+    let stepped = act .ensures ∙ ap (stepWords (here l)) (made w .before .before .before .before .read-record .ensures .0) in (
       reached-next (given (st l)) (a .records .now) (a .text .now) (a .number) (here l) (l .loop .text) (l .loop .done) (l .loop .taken) (l .loop .printed) (i .0)
           (omega (arith, e .before .loop-test))
           (omega (arith, e .if1, i))

@@ -49,7 +49,7 @@ returns-3 c =
     let a = tell .before .before .before .before .before .before .before .before in
     let s = st (fit a .before) in
     let says = tell .tell-answer2 .ensures in
-    apply-fit (given s) (s .args .bytes .now) (s .args .answer .now) _ _ _ (a .apply .ensures) (fit a .before .if1 .left) (fit a .if2 .left) (a .before .read-record .ensures) _ _ (says .0) (says .1)
+    apply-fit (given s) (s .args .bytes .now) (s .args .answer .now) _ _ _ (a .apply .ensures) (fit a .before .if1 .left) (fit a .if2 .left) (a .before .read-record .ensures .0) _ _ (says .0) (says .1)
 
 pub pasumorip-apply-spec : {M : Type 1} → statement M
 pasumorip-apply-spec =
