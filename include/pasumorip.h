@@ -39,7 +39,7 @@ enum pasumorip_code {
     PASUMORIP_INVALID_TRANSITION = 8,   /* the invoice is not Defaulted */
     PASUMORIP_INSUFFICIENT_BALANCE = 9, /* a withdrawal above the stake, or a claim with no cover left */
     PASUMORIP_OVER_LIMIT = 10,
-    PASUMORIP_TABLE_FULL = 11
+    PASUMORIP_TABLE_FULL = 11           /* no row is free, or a buffer has too few bytes left */
 };
 
 enum {
@@ -106,6 +106,16 @@ uint8_t pasumorip_look_up_offer(const uint64_t *stakes, size_t stakes_words, con
 uint8_t pasumorip_replay(uint64_t *stakes, size_t stakes_words, uint64_t *offers, size_t offers_words, uint64_t *books, size_t books_words,
                          const uint8_t *records, size_t record_bytes, uint8_t *text, size_t text_bytes, uint64_t *progress,
                          size_t progress_words);
+
+/* A log's head of PASUMORIP_HEAD_BYTES, and one call's record of PASUMORIP_RECORD_BYTES, written into a lent buffer from byte `at` on as
+ * pasumorip_open and pasumorip_apply read them. Returns DONE where it is written; every other byte stays as it was.
+ * A refusal writes nothing. It is MALFORMED for a head whose admin is 0, and for a record that pasumorip_apply refuses so whatever the
+ * tables. Operation, pool and reply are taken in 64 bits: one that no byte holds is MALFORMED too, and never cut down. Else it is TABLE_FULL
+ * where fewer bytes are left from `at` on, which may be anything: behind the buffer's end none are left.
+ * No tables are lent, so that no other code is given: whether books would take the call is not asked. docs/GUIDE.md has an example. */
+uint8_t pasumorip_write_head(uint8_t *buffer, size_t buffer_bytes, size_t at, uint64_t admin);
+uint8_t pasumorip_write_record(uint8_t *buffer, size_t buffer_bytes, size_t at, uint64_t operation, uint64_t pool, uint64_t reply,
+                               uint64_t now, uint64_t signer, uint64_t subject, uint64_t other, int64_t amount);
 
 /* The pool that an invoice's risk falls to: 0 Conservative, 1 Balanced, 2 Aggressive. Age in seconds. */
 uint8_t pasumorip_assess_risk(uint64_t age, uint32_t repayments, uint32_t defaults, int64_t amount);

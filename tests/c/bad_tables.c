@@ -1,7 +1,6 @@
 #include "harness.h"
 
-/* One of each, all as they should be, and signed by the accounts of WELL_FORMED. */
-static const struct call CALLS[] = {
+const struct call CALLS[] = {
     {.operation = STAKE, .pool = BALANCED, .now = 400, .signer = 7, .subject = 7, .amount = 1000000},
     {.operation = WITHDRAW, .pool = BALANCED, .now = 400, .signer = 7, .subject = 7, .amount = 1},
     {.operation = PAY, .pool = BALANCED, .reply = DEFAULTED, .now = 400, .signer = 2, .subject = 5, .other = 6, .amount = 1000},

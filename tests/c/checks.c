@@ -8,7 +8,7 @@ static const unsigned MOST_TOLD = 20;
 
 static unsigned checked, differences;
 static const char *part_name;
-static char subject[100];
+static char subject[200];
 
 void part(const char *name, void (*checks)(void))
 {

@@ -56,6 +56,9 @@ struct call {
     uint64_t now, signer, subject, other, amount;
 };
 
+/* One of each operation, all as they should be, and signed by the accounts of WELL_FORMED. */
+extern const struct call CALLS[SET_PAYOUT_CALLER];
+
 /* In the order of an answer's words. */
 struct answer {
     uint64_t code, first, second;
@@ -95,6 +98,10 @@ void check_untouched(uint8_t code, uint8_t wanted, const struct lent *got, const
 void lend_words(struct lent *lent, uint64_t stakes_words, uint64_t offers_words, uint64_t books_words, const struct tables *tables);
 void lend(struct lent *lent, uint64_t stake_rooms, uint64_t offer_rooms, const struct tables *tables);
 void lend_well_formed(struct lent *lent);
+
+/* A log's head, and a call's record, byte by byte. */
+void make_head(uint8_t head[PASUMORIP_HEAD_BYTES], uint64_t admin);
+void make_record(uint8_t record[PASUMORIP_RECORD_BYTES], struct call call);
 void put_record(struct lent *lent, struct call call);
 
 /* Each asks the library, and checks the code, every word of the answer, that a refused call changed no word of the tables, a question or a
@@ -124,6 +131,7 @@ void lent_words(void);
 void questions(void);
 void lookups(void);
 void heads(void);
+void writing(void);
 void risk(void);
 
 #endif

@@ -78,14 +78,26 @@ static void put_number(uint8_t *bytes, uint64_t number)
     for (int byte = 0; byte < 8; byte++) bytes[byte] = (uint8_t)(number >> 8 * byte);
 }
 
-void put_record(struct lent *lent, struct call call)
+void make_head(uint8_t head[PASUMORIP_HEAD_BYTES], uint64_t admin)
+{
+    static const uint8_t FIRST[8] = {'P', 'O', 'L', 1};
+    memcpy(head, FIRST, sizeof FIRST);
+    put_number(head + 8, admin);
+}
+
+void make_record(uint8_t record[PASUMORIP_RECORD_BYTES], struct call call)
 {
     const uint64_t numbers[] = {call.now, call.signer, call.subject, call.other, call.amount};
-    memset(lent->bytes, 0, PASUMORIP_RECORD_BYTES);
-    lent->bytes[0] = call.operation;
-    lent->bytes[1] = call.pool;
-    lent->bytes[2] = call.reply;
-    for (size_t number = 0; number < 5; number++) put_number(lent->bytes + 8 + 8 * number, numbers[number]);
+    memset(record, 0, PASUMORIP_RECORD_BYTES);
+    record[0] = call.operation;
+    record[1] = call.pool;
+    record[2] = call.reply;
+    for (size_t number = 0; number < 5; number++) put_number(record + 8 + 8 * number, numbers[number]);
+}
+
+void put_record(struct lent *lent, struct call call)
+{
+    make_record(lent->bytes, call);
 }
 
 void apply(struct lent *lent, struct call call, struct answer wanted)

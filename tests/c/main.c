@@ -10,6 +10,7 @@ int main(void)
     part("questions", questions);
     part("lookups", lookups);
     part("heads", heads);
+    part("writing", writing);
     part("risk", risk);
     return all_held() ? 0 : 1;
 }
