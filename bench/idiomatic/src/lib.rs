@@ -7,11 +7,13 @@ mod engine;
 mod loss;
 mod pool;
 mod record;
+mod row;
 
 pub use answer::{Answer, Code, Way};
 pub use engine::{Engine, Settings};
 pub use pool::{Offer, Pool, Stake};
 pub use record::Record;
+pub use row::{Refusal, Row};
 
 pub const LIMIT: i64 = 1_000_000_000_000_000;
 pub const LAST_TIME: u64 = 17_179_869_183;

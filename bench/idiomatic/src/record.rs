@@ -1,6 +1,6 @@
-//! A record of 48 bytes, and when it is malformed.
+//! A record of 48 bytes, and the row that it stands for.
 
-use crate::{FLAT, LAST_TIME};
+use crate::Row;
 
 #[derive(Clone, Copy, Debug)]
 pub struct Record {
@@ -44,17 +44,13 @@ impl Record {
         bytes
     }
 
+    pub fn row(&self) -> Row {
+        let Record { operation, pool, reply, now, signer, subject, other, amount, .. } = *self;
+        let [operation, pool, reply] = [operation, pool, reply].map(u64::from);
+        Row { operation, pool, reply, now, signer, subject, other, amount }
+    }
+
     pub fn well_formed(&self) -> bool {
-        let Record { pool, reply, subject, other, amount, .. } = *self;
-        let fields = match self.operation {
-            1 | 2 | 4 => pool <= FLAT && reply == 0 && subject != 0 && other == 0,
-            3 => pool <= FLAT && reply <= 2 && subject != 0 && other != 0,
-            5 => pool <= FLAT && reply == 0 && subject != 0 && other != 0,
-            6 => pool == FLAT && reply == 0 && subject == 0 && other == 0 && amount >= 0,
-            7 | 8 => pool == 0 && reply == 0 && subject == 0 && other == 0 && amount == 0,
-            9 => pool == 0 && reply == 0 && subject != 0 && other == 0 && amount == 0,
-            _ => false,
-        };
-        fields && self.spare == [0; 5] && self.now <= LAST_TIME && self.signer != 0
+        self.spare == [0; 5] && self.row().well_formed()
     }
 }

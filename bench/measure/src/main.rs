@@ -1,10 +1,12 @@
-//! Times the proved replay, the idiomatic engine and the original module in one process, and prints the report as Markdown.
+//! Times the proved replay, the idiomatic engine and the original module in one process, then the writers of records, and prints the report as
+//! Markdown.
 
 mod engines;
 mod logs;
 mod operations;
 mod queries;
 mod turns;
+mod writes;
 
 use engines::{drop_text, fresh, Engine, RECORD};
 use logs::{Log, ADMIN};
@@ -41,7 +43,8 @@ fn main() -> ExitCode {
     );
     replays(records, turns);
     operations(turns);
-    queries::print(SHORT_TURNS * turns);
+    queries::print(of_short);
+    writes::print(&logs::mixed(records, SEED), of_short);
     ExitCode::SUCCESS
 }
 

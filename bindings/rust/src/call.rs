@@ -5,6 +5,7 @@ use crate::form;
 use crate::numbers::{Account, Invoice, Offer};
 use crate::pool::{Pool, Reply};
 use crate::record::{Record, RECORD_BYTES};
+use crate::row::Row;
 
 /// One call on the books.
 ///
@@ -65,7 +66,8 @@ pub enum Operation {
 }
 
 impl Call {
-    /// The call's record, of any call; the engine judges it.
+    /// The call's record, of any call, a Malformed one too, which the engine judges; [`write_call`](crate::log::write_call) refuses what is
+    /// Malformed.
     pub fn to_bytes(&self) -> [u8; RECORD_BYTES] {
         self.record().to_bytes()
     }
@@ -73,6 +75,11 @@ impl Call {
     /// The call that a record stands for, or why it is none.
     pub fn from_bytes(bytes: &[u8; RECORD_BYTES]) -> Result<Call, Flaw> {
         Call::from_record(&Record::from_bytes(bytes))
+    }
+
+    /// The call as a row of a database.
+    pub fn row(&self) -> Row {
+        self.record().fields()
     }
 
     pub fn record(&self) -> Record {
@@ -118,8 +125,8 @@ impl Call {
             return Err(flaw);
         }
         // A record without a flaw has a pool from 0 to 3 and a reply from 0 to 2, used or not.
-        let pool = Pool::from_number(record.pool).ok_or(Flaw::UnknownPool(record.pool))?;
-        let reply = Reply::from_number(record.reply).ok_or(Flaw::UnknownReply(record.reply))?;
+        let pool = Pool::from_number(record.pool).ok_or(Flaw::UnknownPool(record.pool.into()))?;
+        let reply = Reply::from_number(record.reply).ok_or(Flaw::UnknownReply(record.reply.into()))?;
         let Record { subject, other, amount, .. } = *record;
         let operation = match record.operation {
             form::STAKE => Operation::Stake { pool, staker: Account(subject), amount },
@@ -131,7 +138,7 @@ impl Call {
             form::PAUSE => Operation::Pause,
             form::UNPAUSE => Operation::Unpause,
             form::PAYOUT_CALLER => Operation::PayoutCaller { caller: Account(subject) },
-            unknown => return Err(Flaw::UnknownOperation(unknown)),
+            unknown => return Err(Flaw::UnknownOperation(unknown.into())),
         };
         Ok(Call { now: record.now, signer: Account(record.signer), operation })
     }

@@ -76,7 +76,9 @@ impl Code {
             Code::OverLimit => {
                 "A rate, amount, stake, accrual, accrued sum or reserved sum is past its limit, or would pass it."
             }
-            Code::TableFull => "A row has to be added and none is free.",
+            Code::TableFull => {
+                "A row has to be added and none is free, or bytes have to be written and too few are left."
+            }
         }
     }
 }

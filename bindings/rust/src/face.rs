@@ -2,6 +2,8 @@
 //!
 //! A function of the library asks for valid pointers that do not overlap, and for nothing else.
 
+use crate::row::Row;
+
 /// The three lent tables, to be written.
 pub struct Lent<'a> {
     pub stakes: &'a mut [u64],
@@ -110,6 +112,20 @@ mod c {
             progress: *mut u64,
             progress_words: usize,
         ) -> u8;
+        pub fn pasumorip_write_head(buffer: *mut u8, buffer_bytes: usize, at: usize, admin: u64) -> u8;
+        pub fn pasumorip_write_record(
+            buffer: *mut u8,
+            buffer_bytes: usize,
+            at: usize,
+            operation: u64,
+            pool: u64,
+            reply: u64,
+            now: u64,
+            signer: u64,
+            subject: u64,
+            other: u64,
+            amount: i64,
+        ) -> u8;
         pub fn pasumorip_assess_risk(age: u64, repayments: u32, defaults: u32, amount: i64) -> u8;
     }
 }
@@ -165,6 +181,19 @@ pub fn look_up_stake(tables: Shown, pool: u64, account: u64, answer: &mut [u64])
 
 pub fn look_up_offer(tables: Shown, pool: u64, offer: u64, answer: &mut [u64]) -> u8 {
     show!(pasumorip_look_up_offer, tables, pool, offer, answer.as_mut_ptr(), answer.len())
+}
+
+pub fn write_head(buffer: &mut [u8], at: usize, admin: u64) -> u8 {
+    let (bytes, length) = (buffer.as_mut_ptr(), buffer.len());
+    // SAFETY: the pointer and the length are of one slice.
+    unsafe { c::pasumorip_write_head(bytes, length, at, admin) }
+}
+
+pub fn write_record(buffer: &mut [u8], at: usize, row: Row) -> u8 {
+    let (bytes, length) = (buffer.as_mut_ptr(), buffer.len());
+    let Row { operation, pool, reply, now, signer, subject, other, amount } = row;
+    // SAFETY: as above.
+    unsafe { c::pasumorip_write_record(bytes, length, at, operation, pool, reply, now, signer, subject, other, amount) }
 }
 
 pub fn assess_risk(age: u64, repayments: u32, defaults: u32, amount: i64) -> u8 {

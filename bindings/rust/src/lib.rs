@@ -30,7 +30,8 @@
 //! | ask | [`Tables::stake`], [`Tables::accrued`], [`Tables::pool`], [`Tables::stakers_count`], [`Tables::offer`] |
 //! | learn where a row is, and how many rows are read to find it | [`Tables::look_up_stake`], [`Tables::look_up_offer`] |
 //! | read the books as rows | [`Tables::books`] |
-//! | read and write logs | [`log`], [`record`] and [`form`] |
+//! | write a log, from rows of a database or from calls | [`log::write_head`], [`log::write_record`], [`log::write_call`] |
+//! | read a log | [`log::LogReader`], [`record`] and [`form`] |
 //! | replay a log | [`replay()`] |
 //! | choose a pool for an invoice | [`assess_risk`] |
 //! | lend words of any kind, and be answered words | [`face`] |
@@ -49,6 +50,7 @@ mod numbers;
 mod pool;
 pub mod record;
 mod replay;
+mod row;
 mod tables;
 
 pub use answer::{Answer, Direction, Transfer};

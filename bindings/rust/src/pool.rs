@@ -19,6 +19,10 @@ impl Pool {
         Pool::ALL.get(usize::from(number)).copied()
     }
 
+    pub(crate) fn from_word(word: u64) -> Option<Pool> {
+        u8::try_from(word).ok().and_then(Pool::from_number)
+    }
+
     pub fn number(self) -> u8 {
         self as u8
     }
@@ -47,6 +51,10 @@ impl Reply {
 
     pub fn from_number(number: u8) -> Option<Reply> {
         Reply::ALL.get(usize::from(number)).copied()
+    }
+
+    pub(crate) fn from_word(word: u64) -> Option<Reply> {
+        u8::try_from(word).ok().and_then(Reply::from_number)
     }
 
     pub fn number(self) -> u8 {

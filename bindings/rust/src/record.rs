@@ -1,5 +1,6 @@
 //! A record of a log: 48 bytes, whatever they mean.
 
+use crate::row::Row;
 use std::array;
 
 /// The length of a record in bytes.
@@ -36,10 +37,22 @@ impl Record {
         Record { operation, pool, reply, spare, now, signer, subject, other, amount: amount as i64 }
     }
 
+    /// The bytes of any record, a Malformed one too, which the engine judges; [`log::record`](crate::log::record) refuses what is Malformed.
     pub fn to_bytes(&self) -> [u8; RECORD_BYTES] {
         let [a, b, c, d, e] = self.spare;
         let small = u64::from_le_bytes([self.operation, self.pool, self.reply, a, b, c, d, e]);
         let words: [u64; WORDS] = [small, self.now, self.signer, self.subject, self.other, self.amount as u64];
         array::from_fn(|at| words[at / 8].to_le_bytes()[at % 8])
+    }
+
+    /// The record as a row of a database. None where its spare bytes are not 0: a row has none of them, and would be another record's.
+    pub fn row(&self) -> Option<Row> {
+        (self.spare == [0; 5]).then(|| self.fields())
+    }
+
+    /// The row, whatever the spare bytes are.
+    pub(crate) fn fields(&self) -> Row {
+        let Record { operation, pool, reply, spare: _, now, signer, subject, other, amount } = *self;
+        Row { operation: operation.into(), pool: pool.into(), reply: reply.into(), now, signer, subject, other, amount }
     }
 }

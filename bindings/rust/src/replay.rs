@@ -29,7 +29,7 @@ pub struct Ended {
 /// use pasumorip::{log, replay, Account, Call, Operation};
 ///
 /// let pause = Call { now: 0, signer: Account(1), operation: Operation::Pause };
-/// let mut bytes = log::head(Account(1)).to_vec();
+/// let mut bytes = log::head(Account(1)).expect("an admin is not 0").to_vec();
 /// bytes.extend(pause.to_bytes());
 /// let mut printout = Vec::new();
 /// let end = replay(&bytes[..], &mut printout)?.expect("the head is good");

@@ -208,18 +208,14 @@ impl Tables {
     }
 }
 
-fn pool_of(word: u64) -> Option<Pool> {
-    Pool::from_number(word.try_into().ok()?)
-}
-
 fn stake_row(words: &[u64]) -> Option<StakeRow> {
     let &[pool, account, stake, since, accrual] = words else { return None };
     let (stake, accrual) = (stake as i64, accrual as i64);
-    Some(StakeRow { pool: pool_of(pool)?, account: Account(account), stake, since, accrual })
+    Some(StakeRow { pool: Pool::from_word(pool)?, account: Account(account), stake, since, accrual })
 }
 
 fn offer_row(words: &[u64]) -> Option<OfferRow> {
     let &[pool, offer, reserved, paid] = words else { return None };
     let figures = OfferFigures { reserved: reserved as i64, paid: paid as i64 };
-    Some(OfferRow { pool: pool_of(pool)?, offer: Offer(offer), figures })
+    Some(OfferRow { pool: Pool::from_word(pool)?, offer: Offer(offer), figures })
 }

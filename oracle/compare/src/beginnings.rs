@@ -8,10 +8,8 @@ use crate::words::Words;
 use oracle::{assess_risk, head, Code, Engine, Log, Rng, Rooms};
 
 pub fn run(counts: &mut Counts) -> Result<(), Box<Failure>> {
-    let none = Words { stakes: vec![], offers: vec![], books: vec![] };
-    heads(counts).and_then(|()| rooms(counts)).and_then(|()| risks(counts)).map_err(|difference| {
-        Box::new(Failure { origin: "fresh sets, heads and risk".to_string(), start: none, records: vec![], difference })
-    })
+    let compared = heads(counts).and_then(|()| rooms(counts)).and_then(|()| risks(counts));
+    compared.map_err(|difference| Failure::without_tables("fresh sets, heads and risk".to_string(), difference))
 }
 
 /// Compares one fresh set, by the library's own call or over a head, on lent words of these lengths.

@@ -3,6 +3,7 @@
 use crate::accrued::Accrued;
 use crate::cases::Cases;
 use crate::lookups::Looked;
+use crate::writes::Wrote;
 use oracle::{grouped, Answer, Books, Code, Record, Rooms};
 use std::collections::BTreeMap;
 use std::fmt;
@@ -62,6 +63,7 @@ pub struct Counts {
     queries: [[u64; CODES]; QUERIES.len()],
     pub accrued: Cases<Accrued>,
     pub lookups: Cases<Looked>,
+    pub writes: Cases<Wrote>,
     lent: BTreeMap<&'static str, u64>,
     replays: u64,
     replayed: u64,
@@ -109,6 +111,7 @@ impl Counts {
         }
         self.accrued.add(&other.accrued);
         self.lookups.add(&other.lookups);
+        self.writes.add(&other.writes);
         for (kind, count) in &other.lent {
             *self.lent.entry(kind).or_default() += count;
         }
@@ -144,6 +147,7 @@ impl fmt::Display for Counts {
         }
         writeln!(f, "\n| accrued queries, well formed | |\n|---|---:|\n{}", self.accrued)?;
         writeln!(f, "| lookups | |\n|---|---:|\n| in all | {} |\n{}", grouped(self.lookups.all()), self.lookups)?;
+        writeln!(f, "| writes | |\n|---|---:|\n| in all | {} |\n{}", grouped(self.writes.all()), self.writes)?;
         writeln!(f, "| replays | records in them | fresh sets and heads | risks |\n|---:|---:|---:|---:|")?;
         let cells = [self.replays, self.replayed, self.fresh, self.risks].map(grouped);
         writeln!(f, "| {} |\n", cells.join(" | "))?;

@@ -29,14 +29,28 @@ fn equal<T: PartialEq + Debug>(what: &str, names: [&'static str; 2], left: T, ri
     Err(Difference { what: what.to_string(), sides })
 }
 
+/// Where two differ first: the shorter one's end, if nowhere before it.
+fn first_other<T: PartialEq>(left: &[T], right: &[T]) -> usize {
+    left.iter().zip(right).position(|(a, b)| a != b).unwrap_or(left.len().min(right.len()))
+}
+
 /// The first word that differs, since whole tables are too long to read.
 pub fn same_words(what: &str, oracle: &[u64], library: &[u64]) -> Result<(), Difference> {
     if oracle == library {
         return Ok(());
     }
-    let at = oracle.iter().zip(library).position(|(a, b)| a != b).unwrap_or(oracle.len().min(library.len()));
+    let at = first_other(oracle, library);
     let word = |words: &[u64]| words.get(at).map(|word| (*word, *word as i64));
     same(&format!("{what}, word {at} of {}", oracle.len()), word(oracle), word(library))
+}
+
+/// The first byte that differs.
+pub fn same_bytes(what: &str, oracle: &[u8], library: &[u8]) -> Result<(), Difference> {
+    if oracle == library {
+        return Ok(());
+    }
+    let at = first_other(oracle, library);
+    same(&format!("{what}, byte {at} of {}", oracle.len()), oracle.get(at), library.get(at))
 }
 
 /// The first line that differs.
@@ -46,7 +60,7 @@ pub fn same_text(what: &str, oracle: &[u8], library: &[u8]) -> Result<(), Differ
         return Ok(());
     }
     let (oracle, library) = (lines(oracle), lines(library));
-    let at = oracle.iter().zip(&library).position(|(a, b)| a != b).unwrap_or(oracle.len().min(library.len()));
+    let at = first_other(&oracle, &library);
     same(&format!("{what}, line {}", at + 1), oracle.get(at), library.get(at))
 }
 
@@ -64,6 +78,13 @@ pub struct Failure {
     pub start: Words,
     pub records: Vec<Record>,
     pub difference: Difference,
+}
+
+impl Failure {
+    pub fn without_tables(origin: String, difference: Difference) -> Box<Failure> {
+        let start = Words { stakes: vec![], offers: vec![], books: vec![] };
+        Box::new(Failure { origin, start, records: vec![], difference })
+    }
 }
 
 impl fmt::Display for Failure {

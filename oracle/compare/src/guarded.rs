@@ -23,6 +23,15 @@ impl<T: Copy + PartialEq> Guarded<T> {
     }
 }
 
+#[cfg(test)]
+impl<T: Copy> Guarded<T> {
+    /// Cells put from a place on, as by a slip: into the guard too, and no further.
+    pub fn put(&mut self, at: usize, cells: &[T]) {
+        let room = self.cells.iter_mut().skip(GUARD.saturating_add(at));
+        room.zip(cells).for_each(|(place, cell)| *place = *cell);
+    }
+}
+
 impl<T> Deref for Guarded<T> {
     type Target = [T];
 

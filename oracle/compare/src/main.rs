@@ -14,6 +14,7 @@ mod replayed;
 mod short;
 mod shrink;
 mod words;
+mod writes;
 
 use counts::Counts;
 use difference::Failure;
@@ -35,6 +36,9 @@ const CALLS_PER_ACCRUED_ROUND: u64 = 2_500;
 /// And every so many one round of lookups.
 const CALLS_PER_LOOKUPS_ROUND: u64 = 5_000;
 
+/// And every so many one round of writes.
+const CALLS_PER_WRITES_ROUND: u64 = 500;
+
 /// A part of the work that stands by itself.
 enum Job {
     Beginnings,
@@ -42,6 +46,7 @@ enum Job {
     Lent { seed: u64 },
     Accrued { seed: u64 },
     Lookups { seed: u64 },
+    Writes { seed: u64 },
     History { seed: u64, most: usize },
 }
 
@@ -55,6 +60,7 @@ impl Job {
             Job::Lent { seed } => lent::run(seed, counts),
             Job::Accrued { seed } => accrued::run(seed, counts),
             Job::Lookups { seed } => lookups::run(seed, counts),
+            Job::Writes { seed } => writes::run(seed, counts),
             Job::History { seed, most } => history::run(seed, most, counts),
         }?;
         Ok(counts.calls() - before)
@@ -69,6 +75,7 @@ fn jobs(calls: u64, seed: u64) -> (Vec<Job>, u64) {
     jobs.extend(seeds(calls / CALLS_PER_LENT_ROUND).map(|seed| Job::Lent { seed }));
     jobs.extend(seeds(calls / CALLS_PER_ACCRUED_ROUND).map(|seed| Job::Accrued { seed }));
     jobs.extend(seeds(calls / CALLS_PER_LOOKUPS_ROUND).map(|seed| Job::Lookups { seed }));
+    jobs.extend(seeds(calls / CALLS_PER_WRITES_ROUND).map(|seed| Job::Writes { seed }));
     let (mut left, mut next) = (calls, seed);
     while left > 0 {
         let most = left.min(history::calls(next) as u64);
@@ -93,7 +100,12 @@ fn main() -> ExitCode {
             return ExitCode::FAILURE;
         }
     };
-    for (kind, missed) in [("accrued query", counts.accrued.missed()), ("lookup", counts.lookups.missed())] {
+    let missed = [
+        ("accrued query", counts.accrued.missed()),
+        ("lookup", counts.lookups.missed()),
+        ("write", counts.writes.missed()),
+    ];
+    for (kind, missed) in missed {
         if let Some(case) = missed {
             eprintln!("compare: there was no {kind} {case}");
             return ExitCode::FAILURE;

@@ -6,6 +6,7 @@ use crate::difference::{same, same_as_plain, same_words, Difference};
 use crate::guarded::Guarded;
 use crate::lookups::Looked;
 use crate::words::Words;
+use crate::writes::write_back;
 use oracle::{lookup_words, Answer, Books, Code, Desk, Lookup, Question, Record, Tables, Way};
 use proved::Query;
 
@@ -63,6 +64,7 @@ impl Pair {
         same("the answer", &answer_words(&told)[..], &self.answer)?;
         same("the code", told.code as u8, code)?;
         self.same_tables()?;
+        write_back(record, told.code)?;
         Ok(told)
     }
 

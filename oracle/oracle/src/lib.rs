@@ -12,6 +12,7 @@ mod log;
 mod lookup;
 mod module;
 mod operation;
+mod piece;
 mod question;
 mod random;
 mod record;
@@ -29,10 +30,14 @@ pub use figures::grouped;
 pub use log::{head, print_replay, Log};
 pub use lookup::{binary_digits, lookup_words, Found, Key, Lookup};
 pub use operation::Operation;
+pub use piece::{Piece, RecordFields, Write};
 pub use question::{assess_risk, Question};
 pub use random::{random_log, Author};
 pub use record::Record;
 pub use rng::Rng;
 pub use tables::{Rooms, Tables};
-pub use text::{parse_lookups, parse_questions, parse_tables, print_found, print_tables, read_log, write_log};
+pub use text::{
+    parse_lookups, parse_questions, parse_tables, parse_writes, print_found, print_tables, print_written, read_log,
+    write_log,
+};
 pub use workers::{count_seed_threads, share_out};

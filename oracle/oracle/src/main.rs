@@ -1,8 +1,8 @@
 //! The oracle's command.
 
 use oracle::{
-    parse_lookups, parse_questions, parse_tables, print_found, print_replay, print_tables, random_log, read_log,
-    write_log, Desk, Engine, Log, Rooms,
+    parse_lookups, parse_questions, parse_tables, parse_writes, print_found, print_replay, print_tables, print_written,
+    random_log, read_log, write_log, Desk, Engine, Log, Rooms,
 };
 use std::io::{self, Write};
 use std::process::ExitCode;
@@ -15,7 +15,8 @@ const USAGE: &str = "usage:
   oracle find LOG LOOKUPS [--rooms S O | --tables FILE]   the places of rows after the log, and how many rows are read
   oracle random SEED COUNT [--rooms S O]                  a random log
   oracle write TEXT                                       the log of a text
-  oracle read LOG                                         the text of a log";
+  oracle read LOG                                         the text of a log
+  oracle put WRITES                                       what single writes of a head or a record leave";
 
 /// What the options say: rooms for a fresh set, or tables to begin from. The log's admin then counts for nothing.
 struct Options {
@@ -53,6 +54,10 @@ fn run(arguments: &[&str]) -> Result<Vec<u8>, String> {
         }
         ["write", text] => write_log(&read_text(text)?),
         ["read", log] => Ok(read_log(&read(log)?).into_bytes()),
+        ["put", writes] => {
+            let writes = parse_writes(&read_text(writes)?)?;
+            Ok(writes.iter().map(|write| print_written(&write.done())).collect::<String>().into_bytes())
+        }
         _ => Err(USAGE.to_string()),
     }
 }

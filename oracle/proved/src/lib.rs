@@ -3,13 +3,14 @@
 
 use pasumorip::face;
 
+pub use face::{write_head, write_record, Question as Query};
+pub use pasumorip::log::Row;
+
 /// Stakes, offers and books.
 pub type Lent<'a> = [&'a mut [u64]; 3];
 
 /// The same, to be read.
 pub type Shown<'a> = [&'a [u64]; 3];
-
-pub use face::Question as Query;
 
 fn lent([stakes, offers, books]: Lent) -> face::Lent {
     face::Lent { stakes, offers, books }

@@ -1,6 +1,7 @@
 //! The library through this crate, held to the kept histories and to rules written plainly.
 
 mod accrued;
+mod front_office;
 mod halving;
 mod histories;
 mod kept;
@@ -10,3 +11,5 @@ mod numbers;
 mod questions;
 mod records;
 mod slips;
+mod verdict;
+mod writing;

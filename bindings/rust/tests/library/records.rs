@@ -1,23 +1,15 @@
 //! What this crate calls a flaw of a record is what the library calls Malformed.
 
 use crate::kept;
+use crate::verdict::is_malformed;
 use pasumorip::log::HEAD_BYTES;
 use pasumorip::record::{Record, RECORD_BYTES};
 use pasumorip::{Call, Code, Flaw, Tables};
 
-/// The library's verdict: on tables without a row, what is not Malformed is BadTables.
-fn malformed(record: &Record) -> bool {
-    let mut none = Tables::from_words(Vec::new(), Vec::new(), Vec::new());
-    match none.apply_record(&record.to_bytes()).code {
-        Code::Malformed => true,
-        Code::BadTables => false,
-        other => panic!("{other} on no tables"),
-    }
-}
-
 fn hold(record: &Record) {
-    assert_eq!(Record::from_bytes(&record.to_bytes()), *record);
-    assert_eq!(Flaw::of(record).is_some(), malformed(record), "{record:?}: {:?}", Flaw::of(record));
+    let bytes = record.to_bytes();
+    assert_eq!(Record::from_bytes(&bytes), *record);
+    assert_eq!(Flaw::of(record).is_some(), is_malformed(&bytes), "{record:?}: {:?}", Flaw::of(record));
     if let Ok(call) = Call::from_record(record) {
         assert_eq!(call.record(), *record);
     }

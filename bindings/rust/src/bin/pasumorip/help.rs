@@ -47,7 +47,8 @@ What is no call is written as its bytes in hex: 'record bytes=...' (48), 'head b
          per call; columns that no call needs may be missing, and a cell that its call does not use is empty.
          The numbers of a column 'line' begin at 0, the head, and miss none.
 
-Where a line is not as expected, nothing is written.
+The proved library makes each head and each call's record. Where it refuses one, or a line is not as expected, the
+line and the reason are told and nothing is written.
 ";
 
 const READ: &str = "\

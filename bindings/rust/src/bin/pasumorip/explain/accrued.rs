@@ -54,7 +54,8 @@ mod tests {
     }
 
     fn explained(lines: &[[u8; RECORD_BYTES]]) -> Explainer {
-        let mut explainer = Explainer::open(&log::head(Account(1))).expect("the head is good");
+        let head = log::head(Account(1)).expect("an admin is not 0");
+        let mut explainer = Explainer::open(&head).expect("the head is good");
         for line in lines {
             explainer.explain(line);
         }

@@ -2,17 +2,20 @@
 
 mod csv;
 mod entry;
+mod fields;
 mod lines;
-mod log_bytes;
+mod order;
+#[cfg(test)]
+mod round_trips;
 mod values;
+mod written;
 
 use crate::arguments::Arguments;
 use crate::fault::Fault;
 use crate::files::{self, Input};
 use entry::Entry;
-use log_bytes::LogBytes;
 use pasumorip::log::LogReader;
-use std::io::{self, BufWriter, IsTerminal, Write};
+use std::io::{self, BufWriter, IsTerminal, Read, Write};
 
 /// The log of a text or a CSV: written whole, or not at all.
 pub fn write(arguments: &Arguments) -> Result<(), Fault> {
@@ -21,25 +24,28 @@ pub fn write(arguments: &Arguments) -> Result<(), Fault> {
     }
     let input = Input::open(arguments.file.as_deref())?;
     let name = input.name.clone();
-    let text = input.text()?;
-    let log = if arguments.has("--csv") { log_of(csv::entries(&text)) } else { log_of(lines::entries(&text)) };
+    let log = log_of(&input.text()?, arguments.has("--csv"));
     files::print_bytes(&log.map_err(|error| Fault::input(format!("{name}, {error}")))?)
 }
 
-fn log_of(entries: Result<Vec<(usize, Entry)>, String>) -> Result<Vec<u8>, String> {
-    let mut log = LogBytes::default();
+fn log_of(text: &str, csv: bool) -> Result<Vec<u8>, String> {
+    let entries = if csv { csv::entries(text) } else { lines::entries(text) };
+    let mut log: Option<Vec<u8>> = None;
     for (line, entry) in entries? {
-        log.add(&entry).map_err(|error| format!("line {line}: {error}"))?;
+        let bytes = order::may_follow(log.as_deref(), &entry.call).and_then(|()| written::bytes_of(&entry));
+        log.get_or_insert_default().extend(bytes.map_err(|error| format!("line {line}: {error}"))?);
     }
-    log.finish()
+    order::whole(log)
+}
+
+pub fn read(arguments: &Arguments) -> Result<(), Fault> {
+    let input = Input::open(arguments.file.as_deref())?;
+    Ok(print(input.reader, arguments.has("--csv"), BufWriter::new(io::stdout().lock()))?)
 }
 
 /// The lines of a log, as they come.
-pub fn read(arguments: &Arguments) -> Result<(), Fault> {
-    let input = Input::open(arguments.file.as_deref())?;
-    let mut log = LogReader::open(input.reader)?;
-    let mut out = BufWriter::new(io::stdout().lock());
-    let csv = arguments.has("--csv");
+fn print(log: impl Read, csv: bool, mut out: impl Write) -> io::Result<()> {
+    let mut log = LogReader::open(log)?;
     if csv {
         writeln!(out, "{}", csv::header())?;
     }
@@ -56,5 +62,5 @@ pub fn read(arguments: &Arguments) -> Result<(), Fault> {
     if !log.left_over().is_empty() {
         print(&Entry::of_left_over(log.left_over()))?;
     }
-    Ok(out.flush()?)
+    out.flush()
 }

@@ -1,6 +1,7 @@
 //! The value of a field as text, and back.
 
 use pasumorip::form::Slot;
+use pasumorip::log::Row;
 use pasumorip::record::Record;
 use pasumorip::Pool;
 use std::fmt::Display;
@@ -25,24 +26,24 @@ pub fn value(record: &Record, slot: Slot) -> String {
     }
 }
 
-/// Puts a value into its field.
-pub fn put(record: &mut Record, slot: Slot, value: &str) -> Result<(), String> {
+/// Puts a value into its field of a row.
+pub fn put(row: &mut Row, slot: Slot, value: &str) -> Result<(), String> {
     match slot {
-        Slot::Pool => record.pool = named(value, &pools().each_ref().map(String::as_str))?,
-        Slot::Reply => record.reply = named(value, &REPLIES)?,
-        Slot::Subject => record.subject = unsigned(value)?,
-        Slot::Other => record.other = unsigned(value)?,
-        Slot::Amount => record.amount = number(value, i64::MIN, i64::MAX)?,
-        Slot::Now => record.now = unsigned(value)?,
-        Slot::Signer => record.signer = unsigned(value)?,
+        Slot::Pool => row.pool = named(value, &pools().each_ref().map(String::as_str))?,
+        Slot::Reply => row.reply = named(value, &REPLIES)?,
+        Slot::Subject => row.subject = unsigned(value)?,
+        Slot::Other => row.other = unsigned(value)?,
+        Slot::Amount => row.amount = number(value, i64::MIN, i64::MAX)?,
+        Slot::Now => row.now = unsigned(value)?,
+        Slot::Signer => row.signer = unsigned(value)?,
     }
     Ok(())
 }
 
 /// A name's place among the names, or the place itself.
-fn named(value: &str, names: &[&str]) -> Result<u8, String> {
+fn named(value: &str, names: &[&str]) -> Result<u64, String> {
     let number = names.iter().position(|name| *name == value).or_else(|| value.parse().ok());
-    let number = number.filter(|number| *number < names.len()).and_then(|number| u8::try_from(number).ok());
+    let number = number.filter(|number| *number < names.len()).map(|number| number as u64);
     number.ok_or_else(|| format!("one of {} is expected", names.join(", ")))
 }
 

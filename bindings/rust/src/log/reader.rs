@@ -1,37 +1,16 @@
-//! A log: a head of 16 bytes, records of 48, and what is left over.
+//! A log's head and records, read from bytes.
 
+use super::{head, HEAD_BYTES};
 use crate::numbers::Account;
 use crate::record::RECORD_BYTES;
 use std::io::{self, ErrorKind, Read};
 
-/// The length of a head in bytes.
-pub const HEAD_BYTES: usize = 16;
-/// The version of log that is read and written.
-pub const VERSION: u16 = 1;
-
-/// The head of a log whose books are this admin's.
-///
-/// ```
-/// use pasumorip::{log, Account};
-///
-/// let head = log::head(Account(1));
-/// assert_eq!(&head[..5], b"POL\x01\x00");
-/// assert_eq!(log::admin(&head), Some(Account(1)));
-/// ```
-pub fn head(admin: Account) -> [u8; HEAD_BYTES] {
-    let mut bytes = [0; HEAD_BYTES];
-    bytes[..3].copy_from_slice(b"POL");
-    bytes[3..5].copy_from_slice(&VERSION.to_le_bytes());
-    bytes[8..].copy_from_slice(&admin.0.to_le_bytes());
-    bytes
-}
-
-/// The admin of a head; none where it is short or wrong, admin 0 included.
+/// The admin of a head, the inverse of [`head`]; none where the head is short or wrong, admin 0 included.
 pub fn admin(bytes: &[u8]) -> Option<Account> {
     let bytes: [u8; HEAD_BYTES] = bytes.try_into().ok()?;
     let [.., a, b, c, d, e, f, g, h] = bytes;
     let admin = Account(u64::from_le_bytes([a, b, c, d, e, f, g, h]));
-    (admin.0 != 0 && bytes == head(admin)).then_some(admin)
+    (head(admin) == Ok(bytes)).then_some(admin)
 }
 
 /// Reads a log record by record, in the same memory for one of any length.
@@ -41,7 +20,8 @@ pub fn admin(bytes: &[u8]) -> Option<Account> {
 /// use pasumorip::{Account, Call, Operation};
 ///
 /// let pause = Call { now: 0, signer: Account(1), operation: Operation::Pause };
-/// let bytes = [&log::head(Account(1))[..], &pause.to_bytes(), b"cut"].concat();
+/// let head = log::head(Account(1)).expect("an admin is not 0");
+/// let bytes = [&head[..], &pause.to_bytes(), b"cut"].concat();
 /// let mut log = LogReader::open(&bytes[..])?;
 /// assert_eq!(log::admin(log.head()), Some(Account(1)));
 /// assert_eq!(log.next_record()?, Some(pause.to_bytes()));
