@@ -1,5 +1,7 @@
 // Three lent slices of words, and the books of the rules that they hold: rows and figures read by name, rows put, and a test of any words.
 // Each contract is over the rows and figures of the rules, so that a caller reasons on these alone and never sees an offset.
+#![tactic(auto)]
+
 mod banking;
 mod figures;
 pub mod layout;

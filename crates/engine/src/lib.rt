@@ -1,4 +1,6 @@
 // A call on lent words: `apply` takes any words and tests them, `act` runs on words that are known to be good, as a replay's are.
+#![tactic(auto)]
+
 ghost use Rattle.std.specs.Prelude.{◌≡◌, true, false};
 ghost use Rattle.rules.specs.Step.{malformed, plan_of};
 ghost use Rattle.books.specs.Words.{tables, books_of, good_tables, result_of, acted, step_words};

@@ -6,8 +6,8 @@ use native.Mathlib.Nat.{add_assoc}
 use native.Mathlib.Omega.{arith}
 use lib.ListN.{length, take, drop, length-append, take-append-drop, get_or-append}
 use lib.Seq.{get_or-append-add, length-take-le, take_at}
-use Rattle.log.specs.Bytes.{byte_at, word_at}
-use Rattle.log.specs.Records.{record_bytes, record_of}
+use Rattle.log_file.specs.Bytes.{byte_at, word_at}
+use Rattle.log_file.specs.Records.{record_bytes, record_of}
 use Rattle.history.specs.Replays.{calls_from, calls_of}
 
 -- ---- a record in the first part, and one in the second

@@ -12,9 +12,9 @@ use Rattle.rules.proofs.Tests.{number_read}
 use Rattle.books.specs.Words.{Tables, words_of, good_tables}
 use Rattle.books.specs.Fresh.{rooms_of, lent, renewed, fresh_words}
 use Rattle.books.proofs.Opened.{fresh-good}
-use Rattle.log.specs.Opening.{head_of}
-use Rattle.log.specs.declared.header.Head.{Head}
-use Rattle.log.specs.declared.header.Head.TheVariants.{Admin, Bad}
+use Rattle.log_file.specs.Opening.{head_of}
+use Rattle.log_file.specs.declared.header.Head.{Head}
+use Rattle.log_file.specs.declared.header.Head.TheVariants.{Admin, Bad}
 use Rattle.history.specs.Beginning.{opened_by, opened}
 
 fresh-done : (t : Tables) (admin : Account) → lent t ≡ true → (fresh_words t admin).code ≡ 0 → good_tables (fresh_words t admin).tables ≡ true

@@ -8,7 +8,7 @@ use lib.Seq.{length-take-le, take-append_seam}
 use Rattle.rules.specs.declared.Call.{Call}
 use Rattle.books.specs.Words.{Tables}
 use Rattle.books.specs.Runs.{run_words}
-use Rattle.log.specs.Records.{record_bytes}
+use Rattle.log_file.specs.Records.{record_bytes}
 use Rattle.history.specs.Replays.{calls_of, texts_of, fitting, PartRun, replayed}
 use Rattle.history.proofs.Parts.{words-parts, texts-parts}
 use Rattle.history.proofs.Bytes.{calls-parts, calls-front, records-within}

@@ -13,10 +13,10 @@ use Rattle.rules.specs.declared.Answer.{Answer}
 use Rattle.books.specs.Words.{Tables, Result, good_tables, result_of, step_words}
 use Rattle.books.specs.Runs.{run_words}
 use Rattle.books.proofs.Carried.{step-carried}
-use Rattle.log.specs.Records.{record_bytes, record_of}
-use Rattle.log.specs.Lines.{answer_text, longest}
-use Rattle.log.specs.Written.{Wrote}
-use Rattle.log.proofs.Writing.{wrote_none, wrote-more}
+use Rattle.log_file.specs.Records.{record_bytes, record_of}
+use Rattle.log_file.specs.Lines.{answer_text, longest}
+use Rattle.log_file.specs.Written.{Wrote}
+use Rattle.log_file.proofs.Writing.{wrote_none, wrote-more}
 use Rattle.history.specs.Replays.{calls_from, calls_of, text_of, texts_of, fitting, part_run, replayed}
 use Rattle.history.specs.Bounds.{Bounded}
 use Rattle.history.proofs.Parts.{words-parts, texts-parts}

@@ -10,8 +10,8 @@ use lib.Dec.{ltb}
 use lib.ListN.{length, take, length-append}
 use Rattle.rules.specs.declared.Call.{Call}
 use Rattle.books.specs.Words.{Tables, step_words}
-use Rattle.log.specs.Records.{record_bytes}
-use Rattle.log.specs.Lines.{longest}
+use Rattle.log_file.specs.Records.{record_bytes}
+use Rattle.log_file.specs.Lines.{longest}
 use Rattle.history.specs.Replays.{calls_of, text_of, texts_of, fitting, replayed}
 use Rattle.history.proofs.Bytes.{calls_count}
 

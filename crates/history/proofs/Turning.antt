@@ -9,9 +9,9 @@ use lib.ListN.{length, take}
 use lib.Seq.{length-take-le}
 use Rattle.books.specs.Words.{Tables, good_tables}
 use Rattle.books.specs.Fresh.{renewed}
-use Rattle.log.specs.Records.{record_bytes}
-use Rattle.log.specs.Lines.{opening_text, bad_head_text, ending_text, longest}
-use Rattle.log.specs.Written.{Wrote}
+use Rattle.log_file.specs.Records.{record_bytes}
+use Rattle.log_file.specs.Lines.{opening_text, bad_head_text, ending_text, longest}
+use Rattle.log_file.specs.Written.{Wrote}
 use Rattle.history.specs.declared.Progress.{Progress}
 use Rattle.history.specs.Beginning.{opened}
 use Rattle.history.specs.Replays.{part_run, replayed}

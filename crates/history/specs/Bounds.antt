@@ -1,8 +1,8 @@
 -- What a caller goes on with after a part of a log; all of it follows from what the part comes to.
 use Rattle.std.specs.Prelude.{◌≡◌, true, List, ℕ, ◌+◌, ◌*◌, ◌≤◌, ◌<◌, length}
 use Rattle.books.specs.Words.{Tables, good_tables}
-use Rattle.log.specs.Records.{record_bytes}
-use Rattle.log.specs.Lines.{longest}
+use Rattle.log_file.specs.Records.{record_bytes}
+use Rattle.log_file.specs.Lines.{longest}
 use Rattle.history.specs.declared.Progress.{Progress}
 use Rattle.history.specs.declared.turns.Turn.{Turn}
 

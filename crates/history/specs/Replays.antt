@@ -3,9 +3,9 @@ use Rattle.std.specs.Prelude.{cond, List, [], ◌∷◌, ◌++◌, ℕ, zero, su
 use Rattle.rules.specs.declared.Call.{Call}
 use Rattle.books.specs.Words.{Tables, step_words}
 use Rattle.books.specs.Runs.{run_words}
-use Rattle.log.specs.Records.{record_bytes, record_of}
-use Rattle.log.specs.Lines.{answer_text, longest}
-use Rattle.log.specs.Written.{written}
+use Rattle.log_file.specs.Records.{record_bytes, record_of}
+use Rattle.log_file.specs.Lines.{answer_text, longest}
+use Rattle.log_file.specs.Written.{written}
 use Rattle.history.specs.declared.Progress.{Progress}
 
 -- "Record, 48 bytes": the calls of k records from byte `at` on

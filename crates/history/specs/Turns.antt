@@ -1,9 +1,9 @@
 -- What the replay program does next: at a log's head, and at each part of the log that comes.
 use Rattle.std.specs.Prelude.{true, false, cond, List, ℕ, ◌-◌, eqb, ltb, length, take}
 use Rattle.books.specs.Words.{Tables}
-use Rattle.log.specs.Records.{record_bytes}
-use Rattle.log.specs.Lines.{opening_text, bad_head_text, ending_text}
-use Rattle.log.specs.Written.{written}
+use Rattle.log_file.specs.Records.{record_bytes}
+use Rattle.log_file.specs.Lines.{opening_text, bad_head_text, ending_text}
+use Rattle.log_file.specs.Written.{written}
 use Rattle.history.specs.declared.turns.Turn.{Turn}
 use Rattle.history.specs.Beginning.{opened}
 use Rattle.history.specs.Replays.{replayed}

@@ -1,4 +1,6 @@
 // A history run from a log: the empty tables that its head begins, then its records, one call each, and the text that they print.
+#![tactic(auto)]
+
 mod buffer;
 mod turns;
 
@@ -9,7 +11,7 @@ ghost use Rattle.history.specs.Beginning.{opened};
 ghost use Rattle.history.specs.Replays.{part_run, replayed};
 ghost use Rattle.history.specs.Bounds.{Bounded};
 
-use log::{Head, LONGEST, RECORD};
+use log_file::{Head, LONGEST, RECORD};
 use rules::codes::MALFORMED;
 pub use turns::{Turn, start, take_turn};
 
@@ -17,7 +19,7 @@ pub use turns::{Turn, start, take_turn};
 pub fn begin(stakes: &mut [u64], offers: &mut [u64], books: &mut [u64], head: &[u8]) -> u64
     ensures { renewed result (tables stakes.new offers.new books.new) ≡ opened (tables stakes.old offers.old books.old) head.now }
 {
-    match log::read_head(head) {
+    match log_file::read_head(head) {
         Head::Admin(admin) => books::fresh(stakes, offers, books, admin),
         Head::Bad => MALFORMED,
     }
@@ -53,10 +55,10 @@ pub fn replay(
         if text.len() - printed < LONGEST {
             break;
         }
-        let call = log::read_record(records, taken);
+        let call = log_file::read_record(records, taken);
         let answer = engine::act(stakes, offers, books, call);
         done += 1;
-        printed = log::write_answer(text, printed, done, answer);
+        printed = log_file::write_answer(text, printed, done, answer);
         taken += RECORD;
     }
     Progress {

@@ -2,13 +2,13 @@
 ghost use Rattle.std.specs.Prelude.{◌≡◌, true, ◌≤◌, ◌^◌, length};
 ghost use Rattle.books.specs.Words.{tables, good_tables};
 ghost use Rattle.books.specs.Fresh.{lent};
-ghost use Rattle.log.specs.Lines.{longest};
+ghost use Rattle.log_file.specs.Lines.{longest};
 ghost use Rattle.history.specs.Turns.{started, start_of, turned, turn_of};
 ghost use Rattle.history.specs.Bounds.{Onward};
 
 use crate::begin;
 use crate::buffer::advance;
-use log::RECORD;
+use log_file::RECORD;
 
 // Records in all so far, bytes of the log left at the front of the buffer, bytes of text to print, and whether the log goes on.
 #[derive(Drop)]
@@ -35,7 +35,7 @@ pub fn start(
 {
     let code = begin(stakes, offers, books, head);
     if code != 0 {
-        let end = log::write_bad_head(text, 0);
+        let end = log_file::write_bad_head(text, 0);
         return Turn {
             number: 0,
             left: 0,
@@ -43,7 +43,7 @@ pub fn start(
             going: false,
         };
     }
-    let end = log::write_opening(text, 0);
+    let end = log_file::write_opening(text, 0);
     Turn {
         number: 0,
         left: 0,
@@ -70,7 +70,7 @@ pub fn take_turn(
     ensures onward { Onward (tables stakes.new offers.new books.new) there text.old number result }
 {
     if there < RECORD {
-        let end = log::write_ending(text, 0, number, there as u64);
+        let end = log_file::write_ending(text, 0, number, there as u64);
         return Turn {
             number: number,
             left: there,

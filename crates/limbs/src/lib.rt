@@ -1,5 +1,7 @@
 // a * b / d through a product of two limbs, with the remainder, and the same of a signed number: the one multiply-and-divide
 // that shares of a loss, yields and caps rest on.
+#![tactic(auto)]
+
 mod product;
 mod quotient;
 

@@ -1,4 +1,6 @@
 // A loss shared over the stake rows of one pool: settled first, then written in one pass. A pool's rows are contiguous.
+#![tactic(auto)]
+
 mod settle;
 mod share;
 mod write;

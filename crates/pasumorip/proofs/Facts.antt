@@ -15,10 +15,10 @@ use Rattle.rules.specs.declared.Call.{Call}
 use Rattle.rules.proofs.Tests.{cases}
 use Rattle.books.specs.Words.{Tables, books_of, good_tables, result_of, step_words}
 use Rattle.books.proofs.Carried.{words-coded}
-use Rattle.log.specs.declared.writer.WriteAnswer.{WriteAnswer}
-use Rattle.log.specs.Records.{record_bytes, record_of}
-use Rattle.log.specs.Writer.{WriteOutcome, after, writes}
-use Rattle.log.proofs.Writes.{writes-coded}
+use Rattle.log_file.specs.declared.writer.WriteAnswer.{WriteAnswer}
+use Rattle.log_file.specs.Records.{record_bytes, record_of}
+use Rattle.log_file.specs.Writer.{WriteOutcome, after, writes}
+use Rattle.log_file.proofs.Writes.{writes-coded}
 use Rattle.history.specs.declared.Progress.{Progress}
 use Rattle.history.specs.Replays.{part_run, replayed}
 use Rattle.queries.specs.Queries.{query_words}

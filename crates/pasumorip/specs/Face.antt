@@ -10,8 +10,8 @@ use Rattle.rules.specs.declared.Entry.{Entry}
 use Rattle.rules.specs.declared.Answer.{Answer}
 use Rattle.rules.specs.Answers.{refusal, Malformed, BadTables}
 use Rattle.books.specs.Words.{Tables, books_of, good_tables, step_words}
-use Rattle.log.specs.Records.{record_bytes, call_of, record_of}
-use Rattle.log.specs.Writer.{WriteOutcome, write_head, write_record}
+use Rattle.log_file.specs.Records.{record_bytes, call_of, record_of}
+use Rattle.log_file.specs.Writer.{WriteOutcome, write_head, write_record}
 use Rattle.history.specs.declared.Progress.{Progress}
 use Rattle.history.specs.Replays.{replayed}
 use Rattle.queries.specs.Queries.{query_words}

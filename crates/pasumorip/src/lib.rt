@@ -1,5 +1,7 @@
 // The static library's face: what C and Rust call. Thin over the engine, and with no precondition: any words and bytes may be lent.
 // include/pasumorip.h says it for C.
+#![tactic(auto)]
+
 mod words;
 
 ghost use Rattle.std.specs.Prelude.{◌≡◌};
@@ -12,7 +14,7 @@ ghost use Rattle.history.specs.Beginning.{opened};
 ghost use Rattle.pasumorip.specs.Face.{answered, applied, queried, questioned, stake_looked_up, offer_looked_up, resumed, replayed_from, buffered, head_written, record_written};
 
 use crate::words::{ANSWER, NUMBERS, PROGRESS, tell_answer, tell_lookup, tell_progress, tell_two};
-use log::RECORD;
+use log_file::RECORD;
 use rules::{Account, Call, Entry, Offer, codes, refuse};
 
 const MALFORMED: u8 = codes::MALFORMED as u8;
@@ -65,7 +67,7 @@ pub extern "C" fn pasumorip_apply(
     if bytes.len() != RECORD {
         return tell_answer(answer, refuse(codes::MALFORMED));
     }
-    let a = engine::apply(stakes, offers, books, log::read_record(bytes, 0));
+    let a = engine::apply(stakes, offers, books, log_file::read_record(bytes, 0));
     tell_answer(answer, a)
 }
 
@@ -162,7 +164,7 @@ pub extern "C" fn pasumorip_assess_risk(age: u64, repayments: u32, defaults: u32
 pub extern "C" fn pasumorip_write_head(buffer: &mut [u8], at: usize, admin: u64) -> u8
     ensures { buffered result buffer.new ≡ head_written buffer.old at (account_no admin) }
 {
-    let written = log::write_head(buffer, at, Account(admin));
+    let written = log_file::write_head(buffer, at, Account(admin));
     written.code as u8
 }
 
@@ -193,8 +195,8 @@ pub extern "C" fn pasumorip_write_record(
     let call = Call {
         now: time,
         signer: Account(signer),
-        operation: log::operation_of(fields),
+        operation: log_file::operation_of(fields),
     };
-    let written = log::write_record(buffer, at, call);
+    let written = log_file::write_record(buffer, at, call);
     written.code as u8
 }

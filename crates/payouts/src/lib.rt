@@ -1,4 +1,6 @@
 // Pay, reserve and claim on lent words: settled on what is lent, then written.
+#![tactic(auto)]
+
 mod claim;
 mod loss;
 mod offer;

@@ -1,4 +1,6 @@
 // The queries and lookups, on any words: an answer, and nothing is written. Malformed arguments are told first, then tables that are not well formed.
+#![tactic(auto)]
+
 mod asking;
 mod lookups;
 

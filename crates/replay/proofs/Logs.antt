@@ -11,8 +11,8 @@ use lib.ListN.{length, take, drop, length-append}
 use lib.Seq.{length-take-le, take-append_seam}
 use Rattle.books.specs.Words.{Tables}
 use Rattle.books.specs.Runs.{run_words}
-use Rattle.log.specs.Records.{record_bytes}
-use Rattle.log.specs.Lines.{ending_text}
+use Rattle.log_file.specs.Records.{record_bytes}
+use Rattle.log_file.specs.Lines.{ending_text}
 use Rattle.history.specs.Replays.{calls_from, calls_of, fitting, replayed}
 use Rattle.history.specs.Turns.{Turned, last_turn, part_turn, turn_of}
 use Rattle.history.proofs.Parts.{words-parts}

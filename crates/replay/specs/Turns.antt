@@ -2,8 +2,8 @@
 use Rattle.std.specs.Prelude.{◌≡◌, Bool, true, false, List, ◌⊎◌, ℕ, ◌/◌, ◌%◌, ◌≤◌, length, take}
 use Rattle.books.specs.Words.{Tables}
 use Rattle.books.specs.Runs.{run_words}
-use Rattle.log.specs.Records.{record_bytes}
-use Rattle.log.specs.Lines.{ending_text}
+use Rattle.log_file.specs.Records.{record_bytes}
+use Rattle.log_file.specs.Lines.{ending_text}
 use Rattle.history.specs.declared.turns.Turn.{Turn}
 use Rattle.history.specs.Replays.{calls_of}
 use Rattle.history.specs.Bounds.{Onward}

@@ -1,19 +1,21 @@
 // Replays a log from standard input and prints what it answers. Memory is constant: the tables, and a buffer each for records and text.
 // What is run and what is printed `history` says, on slices; here are the reads and the writes.
+#![tactic(auto)]
+
 mod input;
 
 ghost use Rattle.std.specs.Prelude.{◌≡◌, true, ◌*◌, ◌≤◌, ◌<◌, ◌^◌, length};
 ghost use Rattle.rules.specs.Limits.{most_stakes, most_offers};
 ghost use Rattle.books.specs.Layout.{stake_width, offer_width};
 ghost use Rattle.books.specs.Words.{tables, good_tables};
-ghost use Rattle.log.specs.Records.{record_bytes};
-ghost use Rattle.log.specs.Lines.{longest};
+ghost use Rattle.log_file.specs.Records.{record_bytes};
+ghost use Rattle.log_file.specs.Lines.{longest};
 ghost use Rattle.replay.specs.Turns.{Turning, Finished};
 
 use books::layout::{BOOKS_LENGTH, OFFER_WIDTH, STAKE_WIDTH};
 use input::Input;
 use libc::{STDERR_FILENO, STDOUT_FILENO};
-use log::{HEAD, RECORD};
+use log_file::{HEAD, RECORD};
 use rules::limits::{MOST_OFFERS, MOST_STAKES};
 
 // No run comes to so many records: the loop over them ends because it counts up to here.

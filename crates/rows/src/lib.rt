@@ -1,5 +1,7 @@
 // A sorted table of fixed-width rows in a flat slice that the caller lends. A row begins with a pool and a number, which together are its
 // key. Used rows come first, in strictly ascending order of their keys; unused rows are all zero. What else a row holds is the caller's.
+#![tactic(auto)]
+
 mod moves;
 mod row;
 mod scan;

@@ -1,6 +1,8 @@
 // The declared types that the rules (specs/) speak of: calls, operations, answers; document 01's codes and limits; answers made; and the
 // rules that need no tables (terms.rt).
 // Accounts, offers and invoices are different kinds of number, so that none can stand for another.
+#![tactic(auto)]
+
 mod answers;
 pub mod codes;
 mod fields;

@@ -1,4 +1,6 @@
 // The admin's operations on lent words: yield rate, pause, unpause, payout caller.
+#![tactic(auto)]
+
 mod admin;
 mod rate;
 mod switches;

@@ -1,4 +1,6 @@
 // Stake and withdraw on lent words: settled on the staker's row, then written.
+#![tactic(auto)]
+
 mod staker;
 mod staking;
 mod unstaking;

@@ -1,5 +1,7 @@
 // Signed 64-bit numbers kept as words in two's complement, each operation with its contract in ℤ:
 // `to_z w64 w` is the number that the word w holds. i64 stands only where a number comes in or goes out.
+#![tactic(auto)]
+
 ghost use Rattle.std.specs.Prelude.{◌≡◌, ◌^◌, ◌<◌, pos, ◌+ℤ◌, ◌-ℤ◌, FitsSigned, int_lt, unsigned_abs};
 ghost use Rattle.std.specs.Int.{w64};
 ghost use Rattle.std.proofs.Common.{to_z, of_z};

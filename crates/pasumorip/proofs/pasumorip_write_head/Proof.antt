@@ -5,7 +5,7 @@ use native.Mathlib.Omega.{arith}
 use borrow.Author.Rules.{rules}
 use Rattle.rules.specs.Limits.{is_number}
 use Rattle.rules.specs.Calls.{account_no}
-use Rattle.log.specs.Writer.{head_text}
+use Rattle.log_file.specs.Writer.{head_text}
 use Rattle.pasumorip.specs.Face.{shown, head_written}
 use Rattle.pasumorip.proofs.Facts.{write-coded}
 use Rattle.pasumorip.proofs.pasumorip_write_head.Statement.{statement}

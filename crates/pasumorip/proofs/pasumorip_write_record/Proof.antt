@@ -9,8 +9,8 @@ use Rattle.rules.specs.declared.Operation.{Operation}
 use Rattle.rules.specs.declared.Call.{Call}
 use Rattle.rules.specs.Step.{malformed}
 use Rattle.rules.specs.Operations.{entry}
-use Rattle.log.specs.Records.{operation_of}
-use Rattle.log.specs.Writer.{record_text, write_record}
+use Rattle.log_file.specs.Records.{operation_of}
+use Rattle.log_file.specs.Writer.{record_text, write_record}
 use Rattle.pasumorip.specs.Face.{shown, record_written}
 use Rattle.pasumorip.proofs.Facts.{write-coded}
 use Rattle.pasumorip.proofs.pasumorip_write_record.Statement.{statement}

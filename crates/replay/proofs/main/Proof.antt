@@ -4,7 +4,7 @@ use native.Mathlib.Omega.{arith}
 use borrow.Author.Rules.{rules}
 use lib.ListN.{replicate}
 use lib.Seq.{length-take-le}
-use Rattle.log.specs.Opening.{head_bytes}
+use Rattle.log_file.specs.Opening.{head_bytes}
 use Rattle.replay.specs.Buffers.{Grown, Filled}
 use Rattle.replay.proofs.Rooms.{rooms-lent}
 use Rattle.replay.proofs.main.Statement.{statement}
