@@ -1,0 +1,16 @@
+use mathlib.Core.Path.{◌≡◌, refl, sym, ap, ◌∙◌}
+use mathlib.Core.Bool.{Bool, ◌&&◌}
+use Prim.Native.Nat.{◌+◌, ◌-◌, ◌≤◌}
+use native.Mathlib.Omega.{arith}
+use lib.ListN.{length, drop}
+use borrow.Author.Rules.{rules}
+use borrow.Author.Tests.{not-true, not-false}
+use Rattle.rows.specs.Rows.{all_zero}
+use Rattle.rows.proofs.Zeros.{zero-none, zero-eight}
+use Rattle.rows.proofs.scan.blank.Given as goal
+
+abbrev pub invariant-loop-j : goal.invariant-loop-j
+invariant-loop-j l = (l.j ≤ length l.s) × (all_zero (drop l.from l.s) ≡ all_zero (drop l.j l.s))
+
+abbrev pub decreases-loop-j : goal.decreases-loop-j
+decreases-loop-j l = length l.s - l.j
