@@ -22,7 +22,7 @@ use Rattle.rules.specs.declared.Account.{Account}
 use Rattle.rules.specs.declared.Offer.{Offer}
 use Rattle.rules.specs.Answers.{refusal, OverLimit}
 use Rattle.rules.specs.Queries.{told}
-use Rattle.rules.proofs.Accrued.{sum-read, beyond-read}
+use Rattle.rules.proofs.AccruedLaws.{sum-read, beyond-read}
 use Rattle.rules.proofs.Ranges.{rate-most}
 use Rattle.rules.proofs.Writes.{old-stake, old-offer}
 use Rattle.books.specs.Layout.{stake_width, offer_width, pools, unpaid_words, rate_word}

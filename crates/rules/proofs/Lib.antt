@@ -1,4 +1,4 @@
--- Laws of one call, and of the functions that need no tables (`Tiers`, `Yields`, `Banked`, `Accrued`). `Figures`, `Order`, `Guards` and `Worked` prove document 01's own figures and warnings (specs), `Accrued` request W-204's; the others hold of every call.
+-- Laws of one call, and of the functions that need no tables (`Tiers`, `Yields`, `BankedLaws`, `AccruedLaws`). `Figures`, `Order`, `Guards` and `Worked` prove document 01's own figures and warnings (specs), `AccruedLaws` request W-204's; the others hold of every call.
 pub mod Figures
 pub mod Order
 pub mod CodeRange
@@ -22,7 +22,7 @@ pub mod Kept
 pub mod Tiers
 pub mod Ranges
 pub mod Yields
-pub mod Banked
-pub mod Accrued
+pub mod BankedLaws
+pub mod AccruedLaws
 pub mod Bounds
 pub mod Refusals

@@ -18,7 +18,7 @@ const RISK_AGE_SECS: u64 = 2_592_000;
 const RISK_LARGE_INVOICE_AMOUNT: i64 = 1_000_000_000;
 
 // A tier's yield and payout cap, in basis points.
-#[derive(Drop)]
+#[derive(Clone, Copy)]
 pub struct TierTerms {
     pub apy: u64,
     pub cap: u64,
