@@ -11,7 +11,7 @@ use rows::Place;
 use rules::Offer;
 
 // An offer row.
-#[derive(Drop)]
+#[derive(Clone, Copy)]
 pub struct OfferLine {
     pub pool: u64,
     pub offer: u64,

@@ -13,7 +13,7 @@ use crate::stakes::{Stake, is_gone, stake_at};
 use rules::limits::{LAST_POOL, LAST_TIME, LIMIT};
 
 // Whether the rows are in order; and where they are, the number of used rows and the sum of each pool.
-#[derive(Drop)]
+#[derive(Clone, Copy)]
 pub struct Pass {
     pub ok: bool,
     pub used: usize,

@@ -8,7 +8,7 @@ use crate::layout::STAKE_WIDTH;
 use rows::Place;
 
 // Rows from .. to - 1.
-#[derive(Drop)]
+#[derive(Clone, Copy)]
 pub struct PoolRows {
     pub from: usize,
     pub to: usize,

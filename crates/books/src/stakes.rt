@@ -14,7 +14,7 @@ use rows::Place;
 use rules::Account;
 
 // A stake row. `stake` is a signed word.
-#[derive(Drop)]
+#[derive(Clone, Copy)]
 pub struct Stake {
     pub pool: u64,
     pub account: u64,

@@ -26,7 +26,7 @@ pub fn begin(stakes: &mut [u64], offers: &mut [u64], books: &mut [u64], head: &[
 }
 
 // Records in all so far, bytes of this part of the log taken, and bytes of text that they print.
-#[derive(Drop)]
+#[derive(Clone, Copy)]
 pub struct Progress {
     pub number: u64,
     pub taken: usize,

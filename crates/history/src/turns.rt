@@ -11,7 +11,7 @@ use crate::buffer::advance;
 use log_file::RECORD;
 
 // Records in all so far, bytes of the log left at the front of the buffer, bytes of text to print, and whether the log goes on.
-#[derive(Drop)]
+#[derive(Clone, Copy)]
 pub struct Turn {
     pub number: u64,
     pub left: usize,

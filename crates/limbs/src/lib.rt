@@ -11,7 +11,7 @@ ghost use Rattle.std.proofs.Common.{to_z};
 ghost use Rattle.limbs.specs.MulDiv.{mul_div, signed_mul_div};
 
 // A quotient with its remainder, or that the quotient has no word, as for a divisor of 0.
-#[derive(Drop)]
+#[derive(Clone, Copy)]
 pub enum MulDiv {
     Exact { quotient: u64, remainder: u64 },
     TooLarge,

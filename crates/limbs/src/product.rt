@@ -2,14 +2,14 @@
 ghost use Rattle.std.specs.Prelude.{◌≡◌, ◌+◌, ◌*◌, ◌^◌, ◌<◌, ◌≤◌};
 
 // A number of 128 bits: high * 2^64 + low.
-#[derive(Drop)]
+#[derive(Clone, Copy)]
 pub struct Wide {
     pub high: u64,
     pub low: u64,
 }
 
 // A sum of two limbs: carry * 2^64 + low.
-#[derive(Drop)]
+#[derive(Clone, Copy)]
 pub struct Sum {
     pub carry: u64,
     pub low: u64,

@@ -4,7 +4,7 @@ ghost use Rattle.std.specs.Prelude.{◌≡◌, ◌+◌, ◌*◌, ◌/◌, ◌%�
 use super::product::Wide;
 
 // What a division answers: a quotient and a remainder.
-#[derive(Drop)]
+#[derive(Clone, Copy)]
 pub struct Divided {
     pub quotient: u64,
     pub remainder: u64,
@@ -37,7 +37,7 @@ pub fn shifted(n: Wide, s: u32) -> Wide
 }
 
 // A digit of a quotient, and what it leaves of the number divided.
-#[derive(Drop)]
+#[derive(Clone, Copy)]
 pub struct Digit {
     pub digit: u64,
     pub rest: u64,

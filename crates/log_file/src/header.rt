@@ -12,7 +12,7 @@ use rules::Account;
 pub const HEAD: usize = 16;
 
 // A log of an admin, or none.
-#[derive(Drop)]
+#[derive(Clone, Copy)]
 pub enum Head {
     Admin(Account),
     Bad,

@@ -17,7 +17,7 @@ use rules::{
 pub const RECORD: usize = 48;
 
 // A record as it stands. `zeros` is the five bytes that are to be 0.
-#[derive(Drop)]
+#[derive(Clone, Copy)]
 pub struct Record {
     pub zeros: u64,
     pub now: u64,

@@ -14,7 +14,7 @@ use crate::words::{low, put_word};
 use rules::{Account, Call, Entry, codes, is_malformed};
 
 // A code, and how many bytes were written.
-#[derive(Drop)]
+#[derive(Clone, Copy)]
 pub struct WriteAnswer {
     pub code: u64,
     pub bytes: usize,

@@ -15,7 +15,7 @@ ghost use Rattle.losses.specs.Loss.{Shareable, after, answer, left};
 pub use share::share_of;
 
 // A loss that is settled: the pool, its rows from .. to - 1, the one of them that bears the rest, the amount lost, and the balance.
-#[derive(Drop)]
+#[derive(Clone, Copy)]
 struct Loss {
     pool: u64,
     from: usize,
@@ -26,7 +26,7 @@ struct Loss {
 }
 
 // What a loss comes to: the number of rows then used, or that a stake would pass its limit and nothing is written.
-#[derive(Drop)]
+#[derive(Clone, Copy)]
 pub enum Lost {
     Rows(usize),
     OverLimit,

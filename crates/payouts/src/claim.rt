@@ -17,7 +17,7 @@ use rules::limits::FLAT;
 use rules::{Account, Answer, ClaimCall, refuse};
 
 // A payment on a cover: its amount, the cover left after it, and what is written of the offer.
-#[derive(Drop)]
+#[derive(Clone, Copy)]
 pub struct CoverPaid {
     pub amount: u64,
     pub left: u64,
@@ -25,7 +25,7 @@ pub struct CoverPaid {
 }
 
 // What a claim comes to before anything is written: refused, nothing to pay of a cover, or a payment.
-#[derive(Drop)]
+#[derive(Clone, Copy)]
 pub enum Claimed {
     Refused(u64),
     Nothing(u64),

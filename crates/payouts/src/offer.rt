@@ -7,14 +7,14 @@ use books::OfferLine;
 use rules::Offer;
 
 // The number of used rows, and an offer's row.
-#[derive(Drop)]
+#[derive(Clone, Copy)]
 pub struct Found {
     pub used: usize,
     pub row: OfferLine,
 }
 
 // What is written of an offer: its row where so many are used, and its pool's unpaid sum.
-#[derive(Drop)]
+#[derive(Clone, Copy)]
 pub struct OfferChange {
     pub used: usize,
     pub row: OfferLine,

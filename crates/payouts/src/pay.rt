@@ -14,7 +14,7 @@ use rules::codes::{INVALID_TRANSITION, NO_REGISTRY, OVER_LIMIT};
 use rules::{Account, Answer, PayCall, refuse};
 
 // What a call comes to before anything is written: refused, nothing to pay, or an amount.
-#[derive(Drop)]
+#[derive(Clone, Copy)]
 pub enum Payment {
     Refused(u64),
     Nothing,

@@ -12,7 +12,7 @@ use rules::limits::LIMIT;
 use rules::{Account, Answer, finish, no_transfer, transfer_out};
 
 // The code of the first tests, 0 where none refuses, and the amount as a word.
-#[derive(Drop)]
+#[derive(Clone, Copy)]
 pub struct Opening {
     pub code: u64,
     pub amount: u64,

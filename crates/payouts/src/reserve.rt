@@ -21,7 +21,7 @@ use rules::limits::{FLAT, LIMIT};
 use rules::{Account, Answer, ReserveCall, refuse};
 
 // What a call comes to before anything is written: refused, nothing to grant, or an amount and what is written of the offer.
-#[derive(Drop)]
+#[derive(Clone, Copy)]
 pub enum Reserved {
     Refused(u64),
     Nothing,

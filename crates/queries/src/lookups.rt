@@ -14,7 +14,7 @@ use rows::Place;
 use rules::{Account, Offer, is_key};
 
 // A lookup's answer: its code, the place of the row or of the gap, and the rows read. A refusal has the gap 0 and no reads.
-#[derive(Drop)]
+#[derive(Clone, Copy)]
 pub struct LookupAnswer {
     pub code: u64,
     pub place: Place,

@@ -5,7 +5,7 @@ ghost use Rattle.replay.specs.Buffers.{AtMost, Filled};
 use libc::STDIN_FILENO;
 
 // So many bytes are there, or a read failed.
-#[derive(Drop)]
+#[derive(Clone, Copy)]
 pub enum Input {
     Has(usize),
     Failed,

@@ -33,14 +33,14 @@ fn print(text: &[u8], count: usize) -> bool
 }
 
 // Between two turns: records so far, and the bytes of the log at the front of the buffer.
-#[derive(Drop)]
+#[derive(Clone, Copy)]
 pub struct Position {
     pub number: u64,
     pub there: usize,
 }
 
 // After a turn: the log goes on from a place; or it ended, and all is printed; or a read or a write failed.
-#[derive(Drop)]
+#[derive(Clone, Copy)]
 pub enum Next {
     More(Position),
     Ended,

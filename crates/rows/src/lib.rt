@@ -18,14 +18,14 @@ pub const POOL: usize = 0;
 pub const NUMBER: usize = 1;
 
 // Where a key is, or the row at which it would be inserted.
-#[derive(Drop)]
+#[derive(Clone, Copy)]
 pub enum Place {
     At(usize),
     Gap(usize),
 }
 
 // What a lookup answers: the key's place, and how many rows it read to tell it.
-#[derive(Drop)]
+#[derive(Clone, Copy)]
 pub struct Lookup {
     pub place: Place,
     pub reads: usize,

@@ -10,7 +10,7 @@ use crate::row::{below, get, same};
 use crate::{Lookup, NUMBER, POOL, Place};
 
 // The rows in question, from row `low` on, and whether the row just behind them has the key.
-#[derive(Drop)]
+#[derive(Clone, Copy)]
 struct Span {
     low: usize,
     rows: usize,

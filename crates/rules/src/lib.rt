@@ -18,17 +18,17 @@ pub use terms::{
     compute_yield, tier_parameters, yield_rate,
 };
 
-#[derive(Drop)]
+#[derive(Clone, Copy)]
 pub struct Account(pub u64);
 
-#[derive(Drop)]
+#[derive(Clone, Copy)]
 pub struct Offer(pub u64);
 
-#[derive(Drop)]
+#[derive(Clone, Copy)]
 pub struct Invoice(pub u64);
 
 // Stake and withdraw.
-#[derive(Drop)]
+#[derive(Clone, Copy)]
 pub struct StakeCall {
     pub pool: u64,
     pub staker: Account,
@@ -36,7 +36,7 @@ pub struct StakeCall {
 }
 
 // Reply: the registry's, 0 not configured, 1 not Defaulted, 2 Defaulted.
-#[derive(Drop)]
+#[derive(Clone, Copy)]
 pub struct PayCall {
     pub pool: u64,
     pub reply: u64,
@@ -45,14 +45,14 @@ pub struct PayCall {
     pub amount: i64,
 }
 
-#[derive(Drop)]
+#[derive(Clone, Copy)]
 pub struct ReserveCall {
     pub pool: u64,
     pub offer: Offer,
     pub amount: i64,
 }
 
-#[derive(Drop)]
+#[derive(Clone, Copy)]
 pub struct ClaimCall {
     pub pool: u64,
     pub offer: Offer,
@@ -60,14 +60,14 @@ pub struct ClaimCall {
     pub amount: i64,
 }
 
-#[derive(Drop)]
+#[derive(Clone, Copy)]
 pub struct RateCall {
     pub pool: u64,
     pub rate: i64,
 }
 
 // Unknown: a record of no such operation, or one with an unused field that is not 0.
-#[derive(Drop)]
+#[derive(Clone, Copy)]
 pub enum Operation {
     Stake(StakeCall),
     Withdraw(StakeCall),
@@ -82,7 +82,7 @@ pub enum Operation {
 }
 
 // An operation as a record of the log holds it: its number, and its fields, 0 where it has none.
-#[derive(Drop)]
+#[derive(Clone, Copy)]
 pub struct Entry {
     pub number: u64,
     pub pool: u64,
@@ -92,7 +92,7 @@ pub struct Entry {
     pub amount: i64,
 }
 
-#[derive(Drop)]
+#[derive(Clone, Copy)]
 pub struct Call {
     pub now: u64,
     pub signer: Account,
@@ -100,7 +100,7 @@ pub struct Call {
 }
 
 // Kind: 0 none, 1 in, 2 out.
-#[derive(Drop)]
+#[derive(Clone, Copy)]
 pub struct Transfer {
     pub kind: u64,
     pub account: Account,
@@ -108,7 +108,7 @@ pub struct Transfer {
 }
 
 // Code, two numbers and at most two transfers.
-#[derive(Drop)]
+#[derive(Clone, Copy)]
 pub struct Answer {
     pub code: u64,
     pub first: i64,

@@ -40,21 +40,21 @@ const TIERS: [TierTerms; FLAT as usize] = [
 ];
 
 // A yield as a signed word, or that it has none.
-#[derive(Drop)]
+#[derive(Clone, Copy)]
 pub enum Yield {
     Word(u64),
     TooLarge,
 }
 
 // An accrual, or that it would pass its limit.
-#[derive(Drop)]
+#[derive(Clone, Copy)]
 pub enum Banked {
     To(u64),
     OverLimit,
 }
 
 // Banked and running yield together as a signed word, or that they lie beyond the limit.
-#[derive(Drop)]
+#[derive(Clone, Copy)]
 pub enum Accrued {
     Sum(u64),
     Beyond,

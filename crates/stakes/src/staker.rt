@@ -12,7 +12,7 @@ use rules::codes::{INVALID_INPUT, NOT_ALLOWED, PAUSED};
 use rules::{Account, Answer, StakeCall, Transfer, finish, refuse};
 
 // A call, by value. `amount` is a signed word.
-#[derive(Drop)]
+#[derive(Clone, Copy)]
 pub struct Ask {
     pub pool: u64,
     pub staker: Account,
@@ -20,7 +20,7 @@ pub struct Ask {
 }
 
 // The number of used rows, and the figures of the staker's row: its stake after the call and its accrual as banked.
-#[derive(Drop)]
+#[derive(Clone, Copy)]
 pub struct RowFigures {
     pub used: usize,
     pub stake: u64,
@@ -28,7 +28,7 @@ pub struct RowFigures {
 }
 
 // What is written: the staker's row where so many are used, its pool's balance, and the transfers due.
-#[derive(Drop)]
+#[derive(Clone, Copy)]
 pub struct Change {
     pub used: usize,
     pub row: books::Stake,
@@ -38,7 +38,7 @@ pub struct Change {
 }
 
 // What a call comes to before anything is written.
-#[derive(Drop)]
+#[derive(Clone, Copy)]
 pub enum Settled {
     Refused(u64),
     Writes(Change),
