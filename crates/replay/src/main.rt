@@ -4,7 +4,8 @@
 
 mod input;
 
-ghost use Rattle.std.specs.Prelude.{◌≡◌, true, ◌*◌, ◌≤◌, ◌<◌, ◌^◌, length};
+ghost use Rattle.std.specs.Prelude.{◌≡◌, true, ◌*◌, ◌≤◌, ◌<◌, ◌^◌, length, take};
+ghost use Rattle.std.specs.Io.KnownBytes.{Appends};
 ghost use Rattle.rules.specs.Limits.{most_stakes, most_offers};
 ghost use Rattle.books.specs.Layout.{stake_width, offer_width};
 ghost use Rattle.books.specs.Words.{tables, good_tables};
@@ -14,22 +15,26 @@ ghost use Rattle.replay.specs.Turns.{Turning, Finished};
 
 use books::layout::{BOOKS_LENGTH, OFFER_WIDTH, STAKE_WIDTH};
 use input::Input;
-use libc::{STDERR_FILENO, STDOUT_FILENO};
 use log_file::{HEAD, RECORD};
 use rules::limits::{MOST_OFFERS, MOST_STAKES};
+use std::io::{Read, Write};
+use std::process::ExitCode;
 
 // No run comes to so many records: the loop over them ends because it counts up to here.
 const MOST_RECORDS: u64 = 0x8000_0000_0000_0000;
 
 // Writes the first bytes of a text, or says why it cannot.
-fn print(text: &[u8], count: usize) -> bool
+fn print<W: Write, E: Eprint>(answers: &mut W, errors: &E, text: &[u8], count: usize) -> bool
     requires { count ≤ length text.now }
+    ensures { result ≡ true → Appends (W.contents answers.old) (W.contents answers.new) (take count text.now) }
 {
-    let is_printed = io::write_all(STDOUT_FILENO, &text[..count]);
-    if !is_printed {
-        os::fail(b"replay: writing standard output");
+    match answers.write_all(&text[..count]) {
+        Ok(()) => true,
+        Err(error) => {
+            let _ = eprintln!(errors; "replay: writing standard output: {error}");
+            false
+        }
     }
-    is_printed
 }
 
 // Between two turns: records so far, and the bytes of the log at the front of the buffer.
@@ -48,7 +53,10 @@ pub enum Next {
 }
 
 // Reads until a record is there or the input ends, takes the turn over what is there, and prints its text.
-fn turn(
+fn turn<R: Read, W: Write, E: Eprint>(
+    log: &mut R,
+    answers: &mut W,
+    errors: &E,
     stakes: &mut [u64],
     offers: &mut [u64],
     books: &mut [u64],
@@ -64,12 +72,12 @@ fn turn(
     requires there_in_bounds { there ≤ length bytes.old }
     ensures { Turning (tables stakes.old offers.old books.old) bytes.old text.old number there (tables stakes.new offers.new books.new) bytes.new text.new result }
 {
-    let filled = input::fill(bytes, there, RECORD);
+    let filled = input::fill(log, errors, bytes, there, RECORD);
     let Input::Has(there) = filled else {
         return Next::Failed;
     };
     let done = history::take_turn(stakes, offers, books, bytes, there, text, number);
-    if !print(text, done.printed) {
+    if !print(answers, errors, text, done.printed) {
         return Next::Failed;
     }
     if !done.going {
@@ -82,7 +90,10 @@ fn turn(
 }
 
 // Runs the records to the end of the input. Whether it came there, and all is printed.
-fn run(
+fn run<R: Read, W: Write, E: Eprint>(
+    log: &mut R,
+    answers: &mut W,
+    errors: &E,
     stakes: &mut [u64],
     offers: &mut [u64],
     books: &mut [u64],
@@ -100,6 +111,9 @@ fn run(
     };
     while place.number < MOST_RECORDS {
         let next = turn(
+            log,
+            answers,
+            errors,
             stakes,
             offers,
             books,
@@ -114,10 +128,7 @@ fn run(
             Next::Failed => return false,
         }
     }
-    io::write_all(
-        STDERR_FILENO,
-        b"replay: more records than can be numbered\n",
-    );
+    let _ = eprintln!(errors; "replay: more records than can be numbered");
     false
 }
 
@@ -134,16 +145,26 @@ fn offer_rows() -> [u64; MOST_OFFERS * OFFER_WIDTH]
     [0; MOST_OFFERS * OFFER_WIDTH]
 }
 
-fn main() {
+// 65,536 zeros, for the log and for the text, so that few reads and writes are made.
+fn large_buffer() -> [u8; 65_536]
+    ensures { 65536 ≡ length result }
+{
+    [0; 65_536]
+}
+
+// The status is 0 but where a read or a write failed, which standard error names.
+fn main(rt: HostRuntime) -> ExitCode {
     let mut stakes = stake_rows();
     let mut offers = offer_rows();
     let mut books = [0u64; BOOKS_LENGTH];
     let mut head = [0u8; HEAD];
-    let mut bytes = io::large_buffer();
-    let mut text = io::large_buffer();
-    let filled = input::fill(&mut head, 0, HEAD);
+    let mut bytes = large_buffer();
+    let mut text = large_buffer();
+    let mut log = rt.stdin();
+    let mut answers = rt.stdout();
+    let filled = input::fill(&mut log, &rt, &mut head, 0, HEAD);
     let Input::Has(there) = filled else {
-        return;
+        return ExitCode::FAILURE;
     };
     let first = history::start(
         &mut stakes,
@@ -152,10 +173,25 @@ fn main() {
         &head[..there],
         &mut text,
     );
-    if !print(&text, first.printed) {
-        return;
+    if !print(&mut answers, &rt, &text, first.printed) {
+        return ExitCode::FAILURE;
     }
-    if first.going {
-        run(&mut stakes, &mut offers, &mut books, &mut bytes, &mut text);
+    if !first.going {
+        return ExitCode::SUCCESS;
+    }
+    let is_ended = run(
+        &mut log,
+        &mut answers,
+        &rt,
+        &mut stakes,
+        &mut offers,
+        &mut books,
+        &mut bytes,
+        &mut text,
+    );
+    if is_ended {
+        ExitCode::SUCCESS
+    } else {
+        ExitCode::FAILURE
     }
 }
