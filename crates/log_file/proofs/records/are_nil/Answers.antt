@@ -4,14 +4,10 @@ use Prim.Native.Nat.{◌<◌, ◌^◌}
 use lib.Signed.{mag}
 use Rattle.rules.proofs.Conditions.{all-joined}
 use Rattle.log_file.proofs.Zeros.{bits-zero}
-use Rattle.log_file.proofs.records.are_nil.Statement.{statement}
-use Rattle.log_file.proofs.records.are_nil.Tie as tie
+use Rattle.log_file.proofs.records.are_nil.Goals as goal
 
-returns : tie.Need-returns
+pub returns : goal.returns
 returns c =
     let amount = c.args.amount in
     let small : mag amount < 2 ^ 63 = search in
     rw (bits-zero amount record { sfits = small }) (all-joined _ (_ ∷ _ ∷ _ ∷ _ ∷ []))
-
-pub are-nil-spec : {M : Type 1} → statement M
-are-nil-spec = tie.close (tie.spec returns)
