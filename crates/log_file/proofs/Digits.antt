@@ -46,6 +46,10 @@ pub decimal-more : (n : ℕ) → 10 ≤ n → n < 2 ^ 64 → decimal n ≡ decim
 unfolding decimal
 decimal-more n h k = digits_more 19 n h ∙ ap (λ (l : List ℕ). l ++ (glyph (n % 10) ∷ [])) (sym (digits_same 18 (n / 10) (omega arith)))
 
+-- its tenth takes a digit less
+pub decimal-fewer : (n : ℕ) → 10 ≤ n → n < 2 ^ 64 → length (decimal (n / 10)) + 1 ≤ 20
+decimal-fewer n h k = omega (arith, decimal-short n, ap length (decimal-more n h k), length-append (decimal (n / 10)) (glyph (n % 10) ∷ []))
+
 -- ---- a signed one, by its sign and its magnitude
 
 pub signed-negative : (x : ℤ) → lt_z x (pos 0) ≡ true → signed_decimal x ≡ 45 ∷ decimal (nat_abs x)

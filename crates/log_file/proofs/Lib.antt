@@ -16,4 +16,5 @@ pub mod RecordBack
 pub mod HeadBack
 pub mod Writes
 pub mod RoundTrip
+pub mod Told
 pub mod Sample

@@ -66,6 +66,7 @@ fn put_fields(text: &mut [u8], at: usize, time: u64, signer: u64, e: Entry) -> u
 }
 
 // The head of an admin's log. Where it is done, the head reads back as the admin's.
+#[tactic(auto, using(crate::proofs::Told::head_refused, crate::proofs::Told::head_full))]
 pub fn write_head(buffer: &mut [u8], at: usize, admin: Account) -> WriteAnswer
     ensures buffer_after { after result buffer.new ≡ write_head buffer.old at admin }
     ensures buffer_after_2 { result.code ≡ 0 → head_of (take head_bytes (drop at buffer.new)) ≡ Admin admin }
@@ -81,6 +82,7 @@ pub fn write_head(buffer: &mut [u8], at: usize, admin: Account) -> WriteAnswer
 }
 
 // A call's record. Where it is done, the record reads back as the call.
+#[tactic(auto, using(crate::proofs::Told::record_refused, crate::proofs::Told::record_full))]
 pub fn write_record(buffer: &mut [u8], at: usize, call: Call) -> WriteAnswer
     ensures buffer_after { after result buffer.new ≡ write_record buffer.old at call }
     ensures at_after { result.code ≡ 0 → record_of buffer.new at ≡ call }

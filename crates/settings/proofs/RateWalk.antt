@@ -22,7 +22,7 @@ use Rattle.settings.specs.inner.Banking.{banked_by, banked_rows}
 abbrev banked_from : List ℕ → ℕ → List ℕ → ℕ → ℕ → List StakeRow
 banked_from b time s₀ n i = map (banked_by b time) (rows_from stake_row_at s₀ i (n - i))
 
--- the rows from row i on are row_written, and those before it as they were
+-- the rows from row i on are written, and those before it as they were
 pub record Banking (b : List ℕ) (time : ℕ) (s₀ : List ℕ) (n : ℕ) (s : List ℕ) (i : ℕ) : Type 0 where
   pub most : i ≤ n
   pub words : Fit s
@@ -85,7 +85,7 @@ module _ (b : List ℕ) (time : ℕ) (s₀ : List ℕ) (n : ℕ) (held : HeldSta
       let own : row_written s stake_width k (stake_words (banked_by b time (stake_row_at s k))) ≡ s = ap (λ (r : StakeRow). row_written s stake_width k (stake_words r)) row ∙ rewritten s m.words k (omega (arith, m.most, m.same, held.table.fits)) in
       rest-stays s i (subst (Banking b time s₀ n s) last (turn s (suc i) m s m.words (omega arith) (sym own))) (λ j l. h j (omega arith))
 
-  -- all rows that are banked are row_written
+  -- all rows that are banked are written
   pub ends : (s : List ℕ) (i : ℕ) → Banking b time s₀ n s i → ((j : ℕ) → j < i → banked_by b time (stake_row_at s₀ j) ≡ stake_row_at s₀ j) → s ≡ table_words stake_words stake_width (room_of stake_width s₀) (banked_rows s₀ b time)
   ends s i m h =
       let t = held.table in

@@ -1,4 +1,4 @@
-// The yield rate: every flat stake is banked at the old rate before the new one is stored. Settled by a pass that only reads, then row_written.
+// The yield rate: every flat stake is banked at the old rate before the new one is stored. Settled by a pass that only reads, then written.
 ghost use Rattle.std.specs.Prelude.{◌≡◌, true, ◌+◌, ◌*◌, ◌≤◌, leb, length};
 ghost use Rattle.rows.specs.Rows.{word};
 ghost use Rattle.rows.specs.inner.Moves.{row_written};

@@ -76,4 +76,4 @@ module _ (b : Books) (time : ℕ) (signer : Account) (c : StakeCall) where
 -- ---- refused
 
 pub turned_down : (t : Tables) (plan : Plan) (row : StakeRow) (code : ℕ) → plan ≡ refused code → SettledTo t plan row (Refused code)
-turned_down t plan row code e = record { plan-is = sym e; row_is = tt; ready = tt }
+turned_down t plan row n e = record { plan-is = sym e; row_is = tt; ready = tt }

@@ -8,7 +8,7 @@ use Rattle.rules.specs.Books.{Books}
 use Rattle.rules.specs.declared.Account.{Account}
 use Rattle.rules.specs.declared.StakeCall.{StakeCall}
 use Rattle.rules.specs.Answers.{Plan, does, not_by, no_transfer, transfer_in, transfer_out, Paused, NotAllowed, InvalidInput}
-use Rattle.rules.specs.Stakes.{old_stake, staked_row, after_stake, stake, yield_due, after_unstake}
+use Rattle.rules.specs.Stakes.{old_stake, staked_row, after_stake, yield_due, after_unstake}
 use Rattle.rules.specs.inner.Passed.{StakeDone, UnstakeDone}
 use Rattle.books.specs.Layout.{stake_width}
 use Rattle.books.specs.Tables.{used_of}

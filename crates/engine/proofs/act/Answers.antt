@@ -1,0 +1,20 @@
+-- `act` meets its contract: refused as malformed, or its operation.
+use mathlib.Core.Path.{◌≡◌, sym, ap, ◌∙◌}
+use mathlib.Core.Bool.{false}
+use Rattle.rules.specs.declared.Answer.{Answer}
+use Rattle.rules.specs.Step.{malformed}
+use Rattle.books.specs.Words.{Tables, tables, result_of}
+use Rattle.engine.proofs.Steps.{step-malformed, step-good}
+use borrow.Author.Rules.{rules}
+use Rattle.engine.proofs.act.Goals as goal
+
+pub returns-then-is_malformed : goal.returns-then-is_malformed
+returns-then-is_malformed c =
+    let given : Tables = tables c.args.stakes.now c.args.offers.now c.args.books.now in
+    ap (λ (r : Answer). result_of r given) c.refuse.ensures ∙ step-malformed given c.args.call (sym c.is_malformed.ensures ∙ c.if-is_malformed.true)
+
+pub returns : goal.returns
+returns c =
+    let given : Tables = tables c.args.stakes.now c.args.offers.now c.args.books.now in
+    let formed : malformed c.args.call ≡ false = sym c.is_malformed.ensures ∙ c.if-is_malformed.false in
+    c.operate.ensures ∙ step-good given c.args.call formed c.requires

@@ -1,0 +1,16 @@
+use mathlib.Core.Path.{◌≡◌, sym, ap, ◌∙◌}
+use Prim.Native.Nat.{◌+◌, ◌-◌, ◌≤◌}
+use native.Mathlib.Omega.{arith}
+use borrow.Author.Rules.{rules}
+use Rattle.rules.specs.Table.{count}
+use Rattle.rules.specs.Sharing.{sharer}
+use Rattle.books.specs.Tables.{rows_from}
+use Rattle.books.specs.Words.{stake_row_at}
+use Rattle.queries.proofs.QueryRows.{count-in, count-out, count_none}
+use Rattle.queries.proofs.sharers_among.Given as goal
+
+abbrev pub invariant-loop-i : goal.invariant-loop-i
+invariant-loop-i l = (l.i ≤ l.used) × (l.n + l.i ≤ l.used) × (l.n ≡ count (sharer l.pool) (rows_from stake_row_at l.stakes l.i (l.used - l.i)))
+
+abbrev pub decreases-loop-i : goal.decreases-loop-i
+decreases-loop-i l = l.i
