@@ -64,6 +64,17 @@ module _ (b : Books) (time : ℕ) (call : StakeCall) where
   top-test : (w : ℕ) → w < 2 ^ 64 → to_z w64 w ≡ after → lt_z after (pos least_stake) ≡ false → lt_z (pos limit) after ≡ ltb limit w
   top-test w h e p = over-is w after h e (omega (arith, whole, p, one after))
 
+-- the stake after the call: not below the least, and not above the limit
+record Within (b : Books) (time : ℕ) (call : StakeCall) (w : ℕ) : Type 0 where
+  is : to_z w64 w ≡ after b time call
+  least : lt_z (after b time call) (pos least_stake) ≡ false
+  top : lt_z (pos limit) (after b time call) ≡ false
+
+within : (b : Books) (time : ℕ) (call : StakeCall) (w : ℕ) (low : Bool) → to_z w64 w ≡ after b time call → low ≡ lt_z (to_z w64 w) (pos least_stake) → low ≡ false → w < 2 ^ 64 → w ≤ limit → Within b time call w
+within b time call w low e l f h m =
+    let p : lt_z (after b time call) (pos least_stake) ≡ false = ap (λ (z : ℤ). lt_z z (pos least_stake)) (sym e) ∙ sym l ∙ f in
+    record { is = e; least = p; top = top-test b time call w h e p ∙ le-ltb limit w m }
+
 -- ---- the answers
 
 pub is_paused-requires : goal.is_paused-requires
@@ -109,17 +120,6 @@ returns-then-less c =
     let sum = after-is b c.args.time call (stake_of c.read_stake-row.result) c.add-stake.result row c.add-stake.ensures in
     let low = ap (λ (z : ℤ). lt_z z (pos least_stake)) (sym sum) ∙ sym c.less.ensures ∙ c.if-less.true in
     rungs.turned_down _ _ _ _ (rungs.by_code b c.args.time c.args.signer call ∙ rw (p.zero, p.most, low))
-
--- the stake after the call: not below the least, and not above the limit
-record Within (b : Books) (time : ℕ) (call : StakeCall) (w : ℕ) : Type 0 where
-  is : to_z w64 w ≡ after b time call
-  least : lt_z (after b time call) (pos least_stake) ≡ false
-  top : lt_z (pos limit) (after b time call) ≡ false
-
-within : (b : Books) (time : ℕ) (call : StakeCall) (w : ℕ) (low : Bool) → to_z w64 w ≡ after b time call → low ≡ lt_z (to_z w64 w) (pos least_stake) → low ≡ false → w < 2 ^ 64 → w ≤ limit → Within b time call w
-within b time call w low e l f h m =
-    let p : lt_z (after b time call) (pos least_stake) ≡ false = ap (λ (z : ℤ). lt_z z (pos least_stake)) (sym e) ∙ sym l ∙ f in
-    record { is = e; least = p; top = top-test b time call w h e p ∙ le-ltb limit w m }
 
 pub returns-then-stake-gt-LIMIT : goal.returns-then-stake-gt-LIMIT
 returns-then-stake-gt-LIMIT c =
