@@ -9,9 +9,11 @@ ghost use Rattle.std.specs.Io.KnownBytes.{Appends};
 ghost use Rattle.rules.specs.Limits.{most_stakes, most_offers};
 ghost use Rattle.books.specs.Layout.{stake_width, offer_width};
 ghost use Rattle.books.specs.Words.{tables, good_tables};
+ghost use Rattle.books.specs.Fresh.{lent};
 ghost use Rattle.log_file.specs.Records.{record_bytes};
 ghost use Rattle.log_file.specs.Lines.{longest};
 ghost use Rattle.replay.specs.Turns.{Turning, Finished};
+ghost use Rattle.replay.specs.Printed.{Telling, Ran, Replayed};
 
 use books::layout::{BOOKS_LENGTH, OFFER_WIDTH, STAKE_WIDTH};
 use input::Input;
@@ -70,7 +72,8 @@ fn turn<R: Read, W: Write, E: Eprint>(
     requires longest_in_bounds { longest ≤ length text.old }
     requires number_bound { number < 2 ^ 63 }
     requires there_in_bounds { there ≤ length bytes.old }
-    ensures { Turning (tables stakes.old offers.old books.old) bytes.old text.old number there (tables stakes.new offers.new books.new) bytes.new text.new result }
+    ensures turning { Turning (tables stakes.old offers.old books.old) bytes.old text.old number there (tables stakes.new offers.new books.new) bytes.new text.new result }
+    ensures telling { Telling (tables stakes.old offers.old books.old) bytes.old text.old number there (tables stakes.new offers.new books.new) bytes.new text.new (R.remaining log.old) (R.remaining log.new) (W.contents answers.old) (W.contents answers.new) result }
 {
     let filled = input::fill(log, errors, bytes, there, RECORD);
     let Input::Has(there) = filled else {
@@ -103,7 +106,8 @@ fn run<R: Read, W: Write, E: Eprint>(
     requires books_value { good_tables (tables stakes.old offers.old books.old) ≡ true }
     requires record_bytes_in_bounds { record_bytes ≤ length bytes.old }
     requires longest_in_bounds { longest ≤ length text.old }
-    ensures { Finished (tables stakes.old offers.old books.old) (tables stakes.new offers.new books.new) text.new result }
+    ensures finished { Finished (tables stakes.old offers.old books.old) (tables stakes.new offers.new books.new) text.new result }
+    ensures ran { result ≡ true → Ran (tables stakes.old offers.old books.old) (tables stakes.new offers.new books.new) (R.remaining log.old) (R.remaining log.new) (W.contents answers.old) (W.contents answers.new) }
 {
     let mut place = Position {
         number: 0,
@@ -132,6 +136,34 @@ fn run<R: Read, W: Write, E: Eprint>(
     false
 }
 
+// Replays a log. Whether it came to its end, or to that of a bad head, and all is printed.
+fn replay_log<R: Read, W: Write, E: Eprint>(
+    log: &mut R,
+    answers: &mut W,
+    errors: &E,
+    stakes: &mut [u64],
+    offers: &mut [u64],
+    books: &mut [u64],
+    bytes: &mut [u8],
+    text: &mut [u8],
+) -> bool
+    requires books_value { lent (tables stakes.old offers.old books.old) ≡ true }
+    requires record_bytes_in_bounds { record_bytes ≤ length bytes.old }
+    requires longest_in_bounds { longest ≤ length text.old }
+    ensures { result ≡ true → Replayed (tables stakes.old offers.old books.old) (tables stakes.new offers.new books.new) (R.remaining log.old) (R.remaining log.new) (W.contents answers.old) (W.contents answers.new) }
+{
+    let mut head = [0u8; HEAD];
+    let filled = input::fill(log, errors, &mut head, 0, HEAD);
+    let Input::Has(there) = filled else {
+        return false;
+    };
+    let first = history::start(stakes, offers, books, &head[..there], text);
+    if !print(answers, errors, text, first.printed) {
+        return false;
+    }
+    !first.going || run(log, answers, errors, stakes, offers, books, bytes, text)
+}
+
 // The program's tables have as many rows as document 01 allows.
 fn stake_rows() -> [u64; MOST_STAKES * STAKE_WIDTH]
     ensures { most_stakes * stake_width ≡ length result }
@@ -157,29 +189,11 @@ fn main(rt: HostRuntime) -> ExitCode {
     let mut stakes = stake_rows();
     let mut offers = offer_rows();
     let mut books = [0u64; BOOKS_LENGTH];
-    let mut head = [0u8; HEAD];
     let mut bytes = large_buffer();
     let mut text = large_buffer();
     let mut log = rt.stdin();
     let mut answers = rt.stdout();
-    let filled = input::fill(&mut log, &rt, &mut head, 0, HEAD);
-    let Input::Has(there) = filled else {
-        return ExitCode::FAILURE;
-    };
-    let first = history::start(
-        &mut stakes,
-        &mut offers,
-        &mut books,
-        &head[..there],
-        &mut text,
-    );
-    if !print(&mut answers, &rt, &text, first.printed) {
-        return ExitCode::FAILURE;
-    }
-    if !first.going {
-        return ExitCode::SUCCESS;
-    }
-    let is_ended = run(
+    let is_printed = replay_log(
         &mut log,
         &mut answers,
         &rt,
@@ -189,7 +203,7 @@ fn main(rt: HostRuntime) -> ExitCode {
         &mut bytes,
         &mut text,
     );
-    if is_ended {
+    if is_printed {
         ExitCode::SUCCESS
     } else {
         ExitCode::FAILURE

@@ -1,6 +1,6 @@
 -- The first bytes are as they were, and what has come is within the buffer, which is as long as it was; and it is what the input gave. The
 -- measure is what is wanted yet.
-use Rattle.std.proofs.Common.{◌-◌, ◌≤◌, length, ◌≡◌, ℕ, take, drop}
+use Rattle.std.proofs.Common.{◌-◌, ◌≤◌, length, ◌≡◌, take, drop}
 use Rattle.std.specs.Io.KnownBytes.{Consumes}
 use Rattle.replay.proofs.input.fill.Given as goal
 
