@@ -1,7 +1,5 @@
 -- `pasumorip_apply` meets its contract, by the lengths that were lent.
 use mathlib.Core.Path.{ap, ◌∙◌}
-use native.Mathlib.Omega.{arith}
-use borrow.Author.Rules.{rules}
 use Rattle.rules.specs.declared.Answer.{Answer}
 use Rattle.books.specs.Words.{Tables, tables}
 use Rattle.pasumorip.specs.Face.{answer_words}

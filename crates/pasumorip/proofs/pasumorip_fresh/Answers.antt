@@ -5,7 +5,6 @@ use Rattle.rules.specs.Calls.{account_no}
 use Rattle.books.specs.Words.{Tables, tables}
 use Rattle.books.specs.Fresh.{Renewed}
 use Rattle.history.proofs.Heads.{fresh-coded}
-use borrow.Author.Rules.{rules}
 use Rattle.pasumorip.proofs.pasumorip_fresh.Goals as goal
 
 pub overflow_cast-result : goal.overflow_cast-result

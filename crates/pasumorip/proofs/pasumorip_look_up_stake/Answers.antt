@@ -5,7 +5,6 @@ use Rattle.books.specs.Words.{tables}
 use Rattle.queries.specs.declared.lookups.LookupAnswer.{LookupAnswer}
 use Rattle.queries.proofs.LookupOrder.{stake-coded}
 use Rattle.pasumorip.specs.Face.{looked_up, stake_looked_up}
-use borrow.Author.Rules.{rules}
 use Rattle.pasumorip.proofs.pasumorip_look_up_stake.Goals as goal
 
 pub tell_lookup-requires : goal.tell_lookup-requires

@@ -1,7 +1,6 @@
 -- `pasumorip_open` meets its contract.
 use mathlib.Core.Path.{ap}
 use native.Mathlib.Omega.{arith}
-use borrow.Author.Rules.{rules}
 use Rattle.books.specs.Words.{Tables, tables}
 use Rattle.books.specs.Fresh.{Renewed}
 use Rattle.history.proofs.Heads.{opened-coded}

@@ -2,7 +2,6 @@
 use Rattle.books.specs.Words.{Tables, tables, books_of}
 use Rattle.queries.proofs.QueryCodes.{query-coded}
 use Rattle.pasumorip.proofs.Facts.{query-misfit, query-fit}
-use borrow.Author.Rules.{rules}
 use Rattle.pasumorip.proofs.pasumorip_query.Goals as goal
 
 pub returns-then-answer-ne-NUMBERS : goal.returns-then-answer-ne-NUMBERS

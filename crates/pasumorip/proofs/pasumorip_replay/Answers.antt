@@ -1,10 +1,8 @@
 -- `pasumorip_replay` meets its contract.
 use mathlib.Core.Path.{◌≡◌, sym, ◌∙◌}
 use mathlib.Core.Bool.{true}
-use borrow.Author.Tests.{not-true, not-false}
 use Rattle.books.specs.Words.{Tables, tables, good_tables}
 use Rattle.pasumorip.proofs.Facts.{replay-misfit, replay-many, replay-bad, replay-good}
-use borrow.Author.Rules.{rules}
 use Rattle.pasumorip.proofs.pasumorip_replay.Goals as goal
 
 pub returns-then-progress-ne-PROGRESS : goal.returns-then-progress-ne-PROGRESS

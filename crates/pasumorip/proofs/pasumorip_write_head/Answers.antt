@@ -2,7 +2,6 @@
 use mathlib.Core.Path.{ap}
 use mathlib.Core.Bool.{not}
 use native.Mathlib.Omega.{arith}
-use borrow.Author.Rules.{rules}
 use Rattle.rules.specs.Limits.{is_number}
 use Rattle.rules.specs.Calls.{account_no}
 use Rattle.log_file.specs.Writer.{head_text}

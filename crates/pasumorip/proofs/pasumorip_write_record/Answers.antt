@@ -1,7 +1,6 @@
 -- `pasumorip_write_record` meets its contract.
 use mathlib.Core.Path.{ap, ◌∙◌}
 use native.Mathlib.Omega.{arith}
-use borrow.Author.Rules.{rules}
 use lib.IntN.{ℤ}
 use Rattle.whole.proofs.Words.{number-back}
 use Rattle.rules.specs.Calls.{account_no}
