@@ -14,9 +14,9 @@ LOG ?= $(firstword $(wildcard examples/friday.log) vectors/sample.log)
 kit:
 	@scripts/kit
 
-# proves the program and what it stands on, where that has not been done yet
+# proves the program and what it stands on, and builds it, where that has not been done yet; that also runs it, here on no log
 replay: kit
-	@rt check replay > target.log 2>&1 || { cat target.log; rm -f target.log; exit 1; }
+	@(cd crates/replay && rt run < /dev/null) > target.log 2>&1 || { cat target.log; rm -f target.log; exit 1; }
 	rm -f target.log
 
 run: replay
@@ -33,7 +33,7 @@ count: kit
 	@scripts/count
 
 fmt: kit
-	@rt fmt
+	@for crate in crates/*/; do (cd "$$crate" && rt fmt); done
 
 oracle:
 	@scripts/module-text

@@ -5,7 +5,7 @@ use std::{env, process};
 
 fn main() {
     let here = PathBuf::from(env::var_os("CARGO_MANIFEST_DIR").expect("cargo names the crate's folder"));
-    let folder = here.join("../../target/door/target/native");
+    let folder = here.join("../../target/native");
     let archive = folder.join("libdoor.a");
     println!("cargo:rerun-if-changed={}", archive.display());
     if !archive.is_file() {

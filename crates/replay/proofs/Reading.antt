@@ -1,17 +1,20 @@
--- Bytes read behind the first ones leave those.
-use mathlib.Core.Path.{◌≡◌, sym, ap, ◌∙◌}
-use mathlib.Core.List.{List}
-use Prim.Native.Nat.{ℕ, ◌-◌, ◌≤◌}
-use native.Mathlib.Omega.{arith}
-use borrow.Rule.Slice.PartMut.{mid_of, put_mid, take_put}
-use lib.ListN.{length, take, length-take, length-drop}
-use lib.Seq.{take-take}
+-- Bytes read behind the first ones.
+use Rattle.std.proofs.Common.{◌≡◌, ℕ, ◌+◌, ◌-◌, ◌≤◌, List, ◌++◌, length, take, drop, ap, ap₂, ◌∙◌, arith}
+use borrow.Rule.Slice.PartMut.{mid_of, put_mid}
+use Rattle.std.proofs.Math.Seq.{take-add}
+use Rattle.std.proofs.lemmas.List.{drop_at, drop-append-le, take-append-le, length-take, length-take-le, length-drop}
+use Rattle.std.proofs.lemmas.Slice.{take-put_mid_below}
 
-module _ (bytes room : List ℕ) (have there : ℕ) (before : have ≤ there) (within : there ≤ length bytes) where
-  pub first-kept : take have (put_mid there (length bytes - there) bytes room) ≡ take have bytes
-  first-kept =
+module _ (bytes room : List ℕ) (have there got : ℕ) (before : have ≤ there) (within : there ≤ length bytes) (some : got ≤ length room) where
+  -- what came stands behind them
+  pub more : drop have (take (there + got) (put_mid there (length bytes - there) bytes room)) ≡ drop have (take there bytes) ++ take got room
+  more =
       let after = put_mid there (length bytes - there) bytes room in
-      sym (take-take have there after before) ∙ ap (take have) (take_put there (length bytes - there) bytes room within) ∙ take-take have there bytes before
+      let size : length (take there bytes) ≡ there = length-take-le there bytes within in
+      let first : take there after ≡ take there bytes = take-put_mid_below there (length bytes - there) bytes room there (omega arith) within in
+      let behind : take got (drop there after) ≡ take got room = ap (take got) (drop_at (take there bytes) _ there size) ∙ take-append-le got room _ some in
+      ap (drop have) (take-add there got after ∙ ap₂ ◌++◌ first behind) ∙ drop-append-le have (take there bytes) (take got room) (omega (arith, size))
 
+-- the room behind them
 pub room-behind : (bytes : List ℕ) (there : ℕ) → length (mid_of there (length bytes - there) bytes) ≡ length bytes - there
 room-behind bytes there = simp (length-take, length-drop) (omega arith)

@@ -1,3 +1,4 @@
--- The input's buffer, and the program's loop.
+-- The input's buffer, the program's loop, and what it prints of a log whose bytes are known.
 pub mod Buffers
 pub mod Turns
+pub mod Printed

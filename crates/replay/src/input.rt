@@ -1,8 +1,8 @@
-// Standard input through a lent buffer, whose first bytes are what was read and is not yet taken.
+// The log through a lent buffer, whose first bytes are what was read and is not yet taken.
 ghost use Rattle.std.specs.Prelude.{◌≤◌, length};
-ghost use Rattle.replay.specs.Buffers.{AtMost, Filled};
+ghost use Rattle.replay.specs.Buffers.{AtMost, NextBytes, Filled, Came};
 
-use libc::STDIN_FILENO;
+use std::io::Read;
 
 // So many bytes are there, or a read failed.
 #[derive(Clone, Copy)]
@@ -12,26 +12,35 @@ pub enum Input {
 }
 
 // One read, or what it says of why it failed; 0 bytes at the end of the input.
-fn read_some(room: &mut [u8]) -> Input
-    ensures { AtMost (length room.old) result }
+fn read_some<R: Read, E: Eprint>(log: &mut R, errors: &E, room: &mut [u8]) -> Input
+    ensures bound { AtMost (length room.old) result }
+    ensures bytes { NextBytes (R.remaining log.old) (R.remaining log.new) room.new result }
 {
-    let got = libc::read(STDIN_FILENO, room);
-    if got < 0 {
-        os::fail(b"replay: reading standard input");
-        return Input::Failed;
+    match log.read(room) {
+        Ok(got) => Input::Has(got),
+        Err(error) => {
+            let _ = eprintln!(errors; "replay: reading standard input: {error}");
+            Input::Failed
+        }
     }
-    Input::Has(io::count(got, room))
 }
 
 // Reads on until at least `least` bytes are there, or the input ends.
-pub fn fill(bytes: &mut [u8], have: usize, least: usize) -> Input
+pub fn fill<R: Read, E: Eprint>(
+    log: &mut R,
+    errors: &E,
+    bytes: &mut [u8],
+    have: usize,
+    least: usize,
+) -> Input
     requires have_in_bounds { have ≤ length bytes.old }
     requires least_in_bounds { least ≤ length bytes.old }
-    ensures { Filled bytes.old have bytes.new result }
+    ensures filled { Filled bytes.old have bytes.new result }
+    ensures came { Came (R.remaining log.old) (R.remaining log.new) have least bytes.new result }
 {
     let mut there = have;
     while there < least {
-        let more = read_some(&mut bytes[there..]);
+        let more = read_some(log, errors, &mut bytes[there..]);
         let Input::Has(got) = more else {
             return Input::Failed;
         };

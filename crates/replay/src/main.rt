@@ -4,32 +4,39 @@
 
 mod input;
 
-ghost use Rattle.std.specs.Prelude.{◌≡◌, true, ◌*◌, ◌≤◌, ◌<◌, ◌^◌, length};
+ghost use Rattle.std.specs.Prelude.{◌≡◌, true, ◌*◌, ◌≤◌, ◌<◌, ◌^◌, length, take};
+ghost use Rattle.std.specs.Io.KnownBytes.{Appends};
 ghost use Rattle.rules.specs.Limits.{most_stakes, most_offers};
 ghost use Rattle.books.specs.Layout.{stake_width, offer_width};
 ghost use Rattle.books.specs.Words.{tables, good_tables};
+ghost use Rattle.books.specs.Fresh.{lent};
 ghost use Rattle.log_file.specs.Records.{record_bytes};
 ghost use Rattle.log_file.specs.Lines.{longest};
 ghost use Rattle.replay.specs.Turns.{Turning, Finished};
+ghost use Rattle.replay.specs.Printed.{Telling, Ran, Replayed};
 
 use books::layout::{BOOKS_LENGTH, OFFER_WIDTH, STAKE_WIDTH};
 use input::Input;
-use libc::{STDERR_FILENO, STDOUT_FILENO};
 use log_file::{HEAD, RECORD};
 use rules::limits::{MOST_OFFERS, MOST_STAKES};
+use std::io::{Read, Write};
+use std::process::ExitCode;
 
 // No run comes to so many records: the loop over them ends because it counts up to here.
 const MOST_RECORDS: u64 = 0x8000_0000_0000_0000;
 
 // Writes the first bytes of a text, or says why it cannot.
-fn print(text: &[u8], count: usize) -> bool
+fn print<W: Write, E: Eprint>(answers: &mut W, errors: &E, text: &[u8], count: usize) -> bool
     requires { count ≤ length text.now }
+    ensures { result ≡ true → Appends (W.contents answers.old) (W.contents answers.new) (take count text.now) }
 {
-    let is_printed = io::write_all(STDOUT_FILENO, &text[..count]);
-    if !is_printed {
-        os::fail(b"replay: writing standard output");
+    match answers.write_all(&text[..count]) {
+        Ok(()) => true,
+        Err(error) => {
+            let _ = eprintln!(errors; "replay: writing standard output: {error}");
+            false
+        }
     }
-    is_printed
 }
 
 // Between two turns: records so far, and the bytes of the log at the front of the buffer.
@@ -48,7 +55,10 @@ pub enum Next {
 }
 
 // Reads until a record is there or the input ends, takes the turn over what is there, and prints its text.
-fn turn(
+fn turn<R: Read, W: Write, E: Eprint>(
+    log: &mut R,
+    answers: &mut W,
+    errors: &E,
     stakes: &mut [u64],
     offers: &mut [u64],
     books: &mut [u64],
@@ -62,14 +72,15 @@ fn turn(
     requires longest_in_bounds { longest ≤ length text.old }
     requires number_bound { number < 2 ^ 63 }
     requires there_in_bounds { there ≤ length bytes.old }
-    ensures { Turning (tables stakes.old offers.old books.old) bytes.old text.old number there (tables stakes.new offers.new books.new) bytes.new text.new result }
+    ensures turning { Turning (tables stakes.old offers.old books.old) bytes.old text.old number there (tables stakes.new offers.new books.new) bytes.new text.new result }
+    ensures telling { Telling (tables stakes.old offers.old books.old) bytes.old text.old number there (tables stakes.new offers.new books.new) bytes.new text.new (R.remaining log.old) (R.remaining log.new) (W.contents answers.old) (W.contents answers.new) result }
 {
-    let filled = input::fill(bytes, there, RECORD);
+    let filled = input::fill(log, errors, bytes, there, RECORD);
     let Input::Has(there) = filled else {
         return Next::Failed;
     };
     let done = history::take_turn(stakes, offers, books, bytes, there, text, number);
-    if !print(text, done.printed) {
+    if !print(answers, errors, text, done.printed) {
         return Next::Failed;
     }
     if !done.going {
@@ -82,7 +93,10 @@ fn turn(
 }
 
 // Runs the records to the end of the input. Whether it came there, and all is printed.
-fn run(
+fn run<R: Read, W: Write, E: Eprint>(
+    log: &mut R,
+    answers: &mut W,
+    errors: &E,
     stakes: &mut [u64],
     offers: &mut [u64],
     books: &mut [u64],
@@ -92,7 +106,8 @@ fn run(
     requires books_value { good_tables (tables stakes.old offers.old books.old) ≡ true }
     requires record_bytes_in_bounds { record_bytes ≤ length bytes.old }
     requires longest_in_bounds { longest ≤ length text.old }
-    ensures { Finished (tables stakes.old offers.old books.old) (tables stakes.new offers.new books.new) text.new result }
+    ensures finished { Finished (tables stakes.old offers.old books.old) (tables stakes.new offers.new books.new) text.new result }
+    ensures ran { result ≡ true → Ran (tables stakes.old offers.old books.old) (tables stakes.new offers.new books.new) (R.remaining log.old) (R.remaining log.new) (W.contents answers.old) (W.contents answers.new) }
 {
     let mut place = Position {
         number: 0,
@@ -100,6 +115,9 @@ fn run(
     };
     while place.number < MOST_RECORDS {
         let next = turn(
+            log,
+            answers,
+            errors,
             stakes,
             offers,
             books,
@@ -114,11 +132,36 @@ fn run(
             Next::Failed => return false,
         }
     }
-    io::write_all(
-        STDERR_FILENO,
-        b"replay: more records than can be numbered\n",
-    );
+    let _ = eprintln!(errors; "replay: more records than can be numbered");
     false
+}
+
+// Replays a log. Whether it came to its end, or to that of a bad head, and all is printed.
+fn replay_log<R: Read, W: Write, E: Eprint>(
+    log: &mut R,
+    answers: &mut W,
+    errors: &E,
+    stakes: &mut [u64],
+    offers: &mut [u64],
+    books: &mut [u64],
+    bytes: &mut [u8],
+    text: &mut [u8],
+) -> bool
+    requires books_value { lent (tables stakes.old offers.old books.old) ≡ true }
+    requires record_bytes_in_bounds { record_bytes ≤ length bytes.old }
+    requires longest_in_bounds { longest ≤ length text.old }
+    ensures { result ≡ true → Replayed (tables stakes.old offers.old books.old) (tables stakes.new offers.new books.new) (R.remaining log.old) (R.remaining log.new) (W.contents answers.old) (W.contents answers.new) }
+{
+    let mut head = [0u8; HEAD];
+    let filled = input::fill(log, errors, &mut head, 0, HEAD);
+    let Input::Has(there) = filled else {
+        return false;
+    };
+    let first = history::start(stakes, offers, books, &head[..there], text);
+    if !print(answers, errors, text, first.printed) {
+        return false;
+    }
+    !first.going || run(log, answers, errors, stakes, offers, books, bytes, text)
 }
 
 // The program's tables have as many rows as document 01 allows.
@@ -134,28 +177,35 @@ fn offer_rows() -> [u64; MOST_OFFERS * OFFER_WIDTH]
     [0; MOST_OFFERS * OFFER_WIDTH]
 }
 
-fn main() {
+// 65,536 zeros, for the log and for the text, so that few reads and writes are made.
+fn large_buffer() -> [u8; 65_536]
+    ensures { 65536 ≡ length result }
+{
+    [0; 65_536]
+}
+
+// The status is 0 but where a read or a write failed, which standard error names.
+fn main(rt: HostRuntime) -> ExitCode {
     let mut stakes = stake_rows();
     let mut offers = offer_rows();
     let mut books = [0u64; BOOKS_LENGTH];
-    let mut head = [0u8; HEAD];
-    let mut bytes = io::large_buffer();
-    let mut text = io::large_buffer();
-    let filled = input::fill(&mut head, 0, HEAD);
-    let Input::Has(there) = filled else {
-        return;
-    };
-    let first = history::start(
+    let mut bytes = large_buffer();
+    let mut text = large_buffer();
+    let mut log = rt.stdin();
+    let mut answers = rt.stdout();
+    let is_printed = replay_log(
+        &mut log,
+        &mut answers,
+        &rt,
         &mut stakes,
         &mut offers,
         &mut books,
-        &head[..there],
+        &mut bytes,
         &mut text,
     );
-    if !print(&text, first.printed) {
-        return;
-    }
-    if first.going {
-        run(&mut stakes, &mut offers, &mut books, &mut bytes, &mut text);
+    if is_printed {
+        ExitCode::SUCCESS
+    } else {
+        ExitCode::FAILURE
     }
 }

@@ -1,0 +1,83 @@
+-- A log's head: where the set that it begins is one, it is whole; and what is printed from it on.
+use Rattle.std.proofs.Common.{◌≡◌, refl, sym, ap, subst, ◌∙◌, Bool, true, false, cond, not, ◌&&◌, Option, List, ◌++◌, ℕ, ◌+◌, ◌≤◌, length, take, drop, arith}
+use mathlib.Core.Bool.{false≢true, true≢false}
+use borrow.Author.Tests.{eqb-true}
+use lib.Dec.{eqb}
+use lib.Seq.{take-append_seam, take_at}
+use Rattle.std.proofs.lemmas.List.{drop_at, take_all}
+use Rattle.std.specs.Io.KnownBytes.{Appends, Consumes}
+use Rattle.std.proofs.KnownBytes.{Consumes-trans, Appends-trans}
+use Rattle.books.specs.Words.{Tables}
+use Rattle.books.specs.Runs.{run_words}
+use Rattle.log_file.specs.Bytes.{word_at}
+use Rattle.log_file.specs.Opening.{head_bytes, named, versioned, head_of}
+use Rattle.log_file.specs.Lines.{opening_text, bad_head_text}
+use Rattle.log_file.specs.declared.header.Head.TheVariants.{Admin, Bad}
+use Rattle.history.specs.declared.turns.Turn.{Turn}
+use Rattle.history.specs.Beginning.{opened_by, opened}
+use Rattle.history.specs.Replays.{calls_of}
+use Rattle.history.specs.Turns.{Started, started, start_of}
+use Rattle.replay.specs.Printed.{records_text, Ran, Replayed}
+
+-- a short head is bad
+opened-whole : (t : Tables) (head : List ℕ) → (opened t head).code ≡ 0 → length head ≡ head_bytes
+unfolding opened head_of
+opened-whole t head done = go (eqb (length head) head_bytes) refl done
+  where
+    go : (b : Bool) → eqb (length head) head_bytes ≡ b
+        → (opened_by t (cond (b && named head && versioned head && not (eqb (word_at head 8) 0)) (Admin (record { 0 = word_at head 8 })) Bad)).code ≡ 0 → length head ≡ head_bytes
+    go true e done = eqb-true (length head) head_bytes e
+    go false e done = absurd (omega (arith, done))
+
+module _ (t : Tables) (head room : List ℕ) (within : length head ≤ head_bytes) (first : Turn) (t₁ : Tables) (text₁ : List ℕ) (is : started first t₁ text₁ ≡ start_of t head room)
+    (known left out out₁ : Option (List ℕ)) (came : Consumes known left head) (printed : Appends out out₁ (take first.printed text₁)) where
+  front : take head_bytes head ≡ head
+  front = take_all head_bytes head within
+
+  -- what the head's text leaves in the room
+  shown : (text : List ℕ) → take (length text) (text ++ drop (0 + length text) room) ≡ text
+  shown text = take-append_seam text (drop (0 + length text) room)
+
+  pub bad-head : (t₂ : Tables) → first.going ≡ false → Replayed t t₂ known left out out₁
+  unfolding start_of
+  bad-head t₂ stop = go (eqb (opened t head).code 0) refl is
+    where
+      go : (b : Bool) → eqb (opened t head).code 0 ≡ b
+          → started first t₁ text₁
+          ≡ started (record { number = 0; left = 0; printed = length (cond b opening_text bad_head_text); going = b }) (opened t head).tables (cond b opening_text bad_head_text ++ drop (0 + length (cond b opening_text bad_head_text)) room)
+          → Replayed t t₂ known left out out₁
+      go true code e = absurd (true≢false (sym (ap (λ (x : Started). x.turn.going) e) ∙ stop))
+      go false code e =
+          let told : Appends out out₁ bad_head_text = subst (Appends out out₁) (ap (λ (x : Started). take x.turn.printed x.text) e ∙ shown bad_head_text) printed in
+          let bad : (opened t (take head_bytes head)).code ≡ 0 → ⊥ =
+          λ done. false≢true (sym code ∙ ap (λ (s : List ℕ). eqb (opened t s).code 0) (sym front) ∙ ap (λ (n : ℕ). eqb n 0) done) in
+          record {
+            log = head;
+            came = came;
+            all = λ done. absurd (bad done);
+            words = λ done. absurd (bad done);
+            printed = subst (Appends out out₁) (sym (ap (λ (s : List ℕ). cond (eqb (opened t s).code 0) (opening_text ++ records_text (opened t s).tables (drop head_bytes head)) bad_head_text) front ∙ ap (λ (b : Bool). cond b (opening_text ++ records_text (opened t head).tables (drop head_bytes head)) bad_head_text) code)) told;
+          }
+
+  pub good-head : (t₂ : Tables) (left₂ out₂ : Option (List ℕ)) → first.going ≡ true → Ran t₁ t₂ left left₂ out₁ out₂ → Replayed t t₂ known left₂ out out₂
+  unfolding start_of
+  good-head t₂ left₂ out₂ on r = go (eqb (opened t head).code 0) refl is
+    where
+      go : (b : Bool) → eqb (opened t head).code 0 ≡ b
+          → started first t₁ text₁
+          ≡ started (record { number = 0; left = 0; printed = length (cond b opening_text bad_head_text); going = b }) (opened t head).tables (cond b opening_text bad_head_text ++ drop (0 + length (cond b opening_text bad_head_text)) room)
+          → Replayed t t₂ known left₂ out out₂
+      go false code e = absurd (false≢true (sym (ap (λ (x : Started). x.turn.going) e) ∙ on))
+      go true code e =
+          let told : Appends out out₁ opening_text = subst (Appends out out₁) (ap (λ (x : Started). take x.turn.printed x.text) e ∙ shown opening_text) printed in
+          let begun : t₁ ≡ (opened t head).tables = ap (λ (x : Started). x.tables) e in
+          let whole : length head ≡ head_bytes = opened-whole t head (eqb-true (opened t head).code 0 code) in
+          let head-is : take head_bytes (head ++ r.log) ≡ head = take_at head r.log head_bytes whole in
+          let rest-is : drop head_bytes (head ++ r.log) ≡ r.log = drop_at head r.log head_bytes whole in
+          record {
+            log = head ++ r.log;
+            came = Consumes-trans known left left₂ head r.log came r.came;
+            all = λ done. r.all;
+            words = λ done. rw (head-is, rest-is) (r.words ∙ ap (λ (u : Tables). run_words u (calls_of r.log)) begun);
+            printed = rw (head-is, rest-is, code) (subst (λ (u : Tables). Appends out out₂ (opening_text ++ records_text u r.log)) begun (Appends-trans out out₁ out₂ opening_text (records_text t₁ r.log) told r.printed));
+          }
