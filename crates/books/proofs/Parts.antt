@@ -1,6 +1,6 @@
 -- The table test, part by part: the facts that the code tests are those that `good_tables` says.
 use mathlib.Core.Path.{◌≡◌, refl, sym, ap, ◌∙◌}
-use mathlib.Core.Bool.{true, not}
+use mathlib.Core.Bool.{true, false, not}
 use mathlib.Core.List.{List}
 use Prim.Native.Nat.{ℕ, ◌+◌, ◌*◌, ◌<◌}
 use native.Mathlib.Nat.{zero-add}
@@ -13,12 +13,14 @@ use mir.Val.{to_z}
 use borrow.Author.Tests.{eqb-true, eq-eqb, le-leb, lt-ltb}
 use Rattle.whole.specs.Whole.{up}
 use Rattle.rows.specs.Rows.{all_zero}
+use Rattle.rows.proofs.Order.{false-true}
 use Rattle.rules.specs.Limits.{greatest_rate, is_number, two_to64}
 use Rattle.rules.specs.Table.{sum_of}
 use Rattle.rules.specs.Books.{stake_key, offer_key, balance_of, unpaid_of, rooms_lent}
 use Rattle.rules.specs.Formed.{rows_test, stake_test, offer_test, stake_in, cover_in, sums_test, well_formed}
 use Rattle.rules.proofs.Tests.{nth, held, below-made, and_left, and_right, word_number}
 use Rattle.rules.proofs.Decided.{formed-read}
+use Rattle.rules.proofs.Conditions.{refuted}
 use Rattle.books.specs.Layout.{stake_width, offer_width, pools, books_words, balance_words, unpaid_words, admin_word, caller_word, paused_word, rate_word}
 use Rattle.books.specs.Tables.{room_of, used_of, table_of}
 use Rattle.books.specs.Words.{tables, stake_row_at, offer_row_at, balance_in, unpaid_in, books_of, good_tables}
@@ -150,3 +152,8 @@ module _ (s o b : List ℕ) where
     parts-made x =
         let l = lengths_read x.lengths in
         held _ (rw (l.even-stakes, x.stakes-end), (rw (l.even-offers, x.offers-end), (l.sized, ((figures-read x.figures).flag, (formed-made x, tt)))))
+
+-- offer rows that are not in order
+pub offers_refused : (s o b : List ℕ) → rows_test offer_key offer_test 0 (table_of offer_row_at offer_width o) ≡ false → false ≡ good_tables (tables s o b)
+unfolding good_tables well_formed books_of
+offers_refused s o b e = refuted (good_tables (tables s o b)) (λ g. false-true (sym e ∙ nth _ (nth _ g 4) 1))

@@ -29,6 +29,7 @@ fn settings_test(books: &[u64]) -> bool
 }
 
 // Whether lent words are well formed.
+#[tactic(auto, using(crate::proofs::Parts::offers_refused))]
 pub fn tables_well_formed(stakes: &[u64], offers: &[u64], books: &[u64]) -> bool
     ensures { result ≡ good_tables (tables stakes.now offers.now books.now) }
 {

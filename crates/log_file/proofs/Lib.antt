@@ -2,6 +2,7 @@
 -- amount that is 0, and an operation number. `Digits`, `Transfers`, `Writing`: texts of numbers and transfers, and texts one behind the
 -- other. `ByteWords`: numbers and their bytes. `SideBySide`, `EntryBack`: an operation and its entry of the log. `RecordBack`, `HeadBack`: records and
 -- heads and their bytes. `Writes`: a write by what its tests told. `RoundTrip`: what is written reads back, and what is read writes back.
+-- `Told`: what a write of a head or a record comes to, by each of its tests.
 pub mod FirstWord
 pub mod Zeros
 pub mod Numbered

@@ -75,3 +75,6 @@ asks_nothing t b kind pool number time u = sym (unused-malformed b pool number t
 pub asks_unknown : (t : Tables) (b : Books) (kind pool number time : ℕ) → (kind ≡ 1 → ⊥) → (kind ≡ 2 → ⊥) → (kind ≡ 3 → ⊥) → (kind ≡ 4 → ⊥) → (kind ≡ 5 → ⊥) → unused_zero kind number time ≡ true
     → query_words t (question_of b kind pool number time) ≡ refusal Malformed
 asks_unknown t b kind pool number time a c d e f u = sym (kind-malformed b pool number time t kind a c d e f u)
+
+-- the answers of `ask`, arm by arm
+pub ruleset asked = (asks_stake, asks_accrued, asks_pool, asks_count, asks_offer, asks_nothing, asks_unknown)

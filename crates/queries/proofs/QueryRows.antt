@@ -32,7 +32,7 @@ use Rattle.books.specs.inner.Held.{stake_of, stake_for, offer_of, offer_for, Hel
 use Rattle.books.specs.declared.stakes.Stake.{Stake}
 use Rattle.books.specs.declared.offers.OfferLine.{OfferLine}
 use Rattle.books.proofs.Lists.{rows_before, rows-done}
-use Rattle.books.proofs.Good.{good-read, good-formed, stakes-held, offers-held, good-unpaid}
+use Rattle.books.proofs.Good.{good-formed, stakes-held, offers-held, good-unpaid}
 use Rattle.books.proofs.Writing.{balance-is, unpaid-is, rate-is, stake-is, offer-is, stakes-are}
 
 -- a number that is no more than some thousand limits is itself as a signed word

@@ -22,7 +22,7 @@ fn unused_zero(kind: u64, number: u64, time: u64) -> bool
 }
 
 // Kind 1 stake, 2 accrued, 3 pool, 4 stakers' count, 5 offer.
-#[tactic(auto, using(crate::proofs::QueryKinds::asks_stake, crate::proofs::QueryKinds::asks_accrued, crate::proofs::QueryKinds::asks_pool, crate::proofs::QueryKinds::asks_count, crate::proofs::QueryKinds::asks_offer, crate::proofs::QueryKinds::asks_nothing, crate::proofs::QueryKinds::asks_unknown))]
+#[tactic(auto, using(crate::proofs::QueryKinds::asked))]
 pub fn ask(
     stakes: &[u64],
     offers: &[u64],

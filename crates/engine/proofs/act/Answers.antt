@@ -5,7 +5,6 @@ use Rattle.rules.specs.declared.Answer.{Answer}
 use Rattle.rules.specs.Step.{malformed}
 use Rattle.books.specs.Words.{Tables, tables, result_of}
 use Rattle.engine.proofs.Steps.{step-malformed, step-good}
-use borrow.Author.Rules.{rules}
 use Rattle.engine.proofs.act.Goals as goal
 
 pub returns-then-is_malformed : goal.returns-then-is_malformed

@@ -1,12 +1,10 @@
 -- `apply` meets its contract: refused as malformed, then for its tables, or its operation.
 use mathlib.Core.Path.{◌≡◌, sym, ap, ◌∙◌}
 use mathlib.Core.Bool.{true, false}
-use borrow.Author.Tests.{not-true, not-false}
 use Rattle.rules.specs.declared.Answer.{Answer}
 use Rattle.rules.specs.Step.{malformed}
 use Rattle.books.specs.Words.{Tables, tables, good_tables, result_of}
 use Rattle.engine.proofs.Steps.{step-malformed, step-bad, step-good}
-use borrow.Author.Rules.{rules}
 use Rattle.engine.proofs.apply.Goals as goal
 
 pub returns-then-is_malformed : goal.returns-then-is_malformed

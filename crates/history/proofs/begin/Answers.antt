@@ -1,6 +1,5 @@
 -- `begin` meets its contract, by the head's case.
 use mathlib.Core.Path.{refl, sym, ◌∙◌}
-use borrow.Author.Rules.{rules}
 use Rattle.history.specs.Beginning.{opened}
 use Rattle.history.proofs.begin.Goals as goal
 

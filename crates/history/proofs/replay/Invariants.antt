@@ -1,10 +1,8 @@
-use mathlib.Core.Path.{◌≡◌, refl, ap, ◌∙◌}
-use mathlib.Core.Logic.{inl, inr}
+use mathlib.Core.Path.{◌≡◌}
 use Prim.Native.Nat.{◌-◌}
-use native.Mathlib.Omega.{arith}
 use lib.ListN.{length}
-use Rattle.books.specs.Words.{Tables, tables, step_words}
-use Rattle.history.proofs.Reached.{Reached, reached-start, reached-next, stops-here}
+use Rattle.books.specs.Words.{tables}
+use Rattle.history.proofs.Reached.{Reached}
 use Rattle.history.proofs.replay.Given as goal
 
 abbrev pub invariant-loop-taken : goal.invariant-loop-taken

@@ -1,5 +1,5 @@
 -- `share_loss` meets its contract: what it settles is what the rules ask (`fits-is`), and what it then writes is `lower`'s.
-use Rattle.std.proofs.Common.{List, ◌≡◌, sym, ◌∙◌, ap, ℕ, arith}
+use Rattle.std.proofs.Common.{List, sym, ◌∙◌, ap, ℕ}
 use mathlib.Core.Bool.{not}
 use Rattle.books.specs.Layout.{stake_width}
 use Rattle.books.specs.Tables.{table_of}
@@ -8,7 +8,6 @@ use Rattle.books.specs.inner.Held.{HeldStakes}
 use Rattle.books.specs.inner.Pool.{PoolAt}
 use Rattle.losses.specs.Loss.{Shareable}
 use Rattle.losses.specs.inner.Settling.{Ready, LastSharer}
-use Rattle.losses.specs.declared.Loss.{Loss}
 use Rattle.losses.specs.declared.Lost.TheVariants.{Rows}
 use Rattle.losses.proofs.Sharer.{some-sharer}
 use Rattle.losses.proofs.Sizes.{sharers-of}

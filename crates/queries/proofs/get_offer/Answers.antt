@@ -1,5 +1,5 @@
 -- `get_offer` meets its contract: the gate, then the row that is found.
-use Rattle.std.proofs.Common.{◌≡◌, ◌<◌, refl, sym, ap, ◌∙◌, [], ◌∷◌, pos, arith}
+use Rattle.std.proofs.Common.{◌<◌, refl, sym, ap, ◌∙◌, [], ◌∷◌, pos, arith}
 use Rattle.rules.specs.Answers.{refusal}
 use Rattle.rules.specs.Limits.{two_to64, is_pool, is_number}
 use Rattle.rules.specs.Books.{offer_at}

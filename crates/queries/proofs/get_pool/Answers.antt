@@ -1,5 +1,5 @@
 -- `get_pool` meets its contract: the gate, then the pool's figures.
-use Rattle.std.proofs.Common.{◌≡◌, ℕ, ◌<◌, refl, sym, ap, ◌∙◌, [], ◌∷◌, pos, arith}
+use Rattle.std.proofs.Common.{ℕ, ◌<◌, refl, sym, ap, ◌∙◌, [], ◌∷◌, pos, arith}
 use Rattle.rules.specs.Table.{all}
 use Rattle.rules.specs.Answers.{refusal}
 use Rattle.rules.specs.Limits.{is_pool}

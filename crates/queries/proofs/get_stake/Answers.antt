@@ -1,5 +1,5 @@
 -- `get_stake` meets its contract: the gate, then the row that is found.
-use Rattle.std.proofs.Common.{◌≡◌, refl, sym, ap, ◌∙◌, [], ◌∷◌, pos}
+use Rattle.std.proofs.Common.{refl, sym, ap, ◌∙◌, [], ◌∷◌, pos}
 use Rattle.rules.specs.Answers.{refusal}
 use Rattle.rules.specs.Limits.{is_pool, is_number}
 use Rattle.rules.specs.Books.{stake_at}

@@ -1,5 +1,5 @@
 -- `get_stakers_count` meets its contract: the gate, then the count.
-use Rattle.std.proofs.Common.{◌≡◌, refl, sym, ap, ◌∙◌, [], ◌∷◌, pos}
+use Rattle.std.proofs.Common.{refl, sym, ap, ◌∙◌, [], ◌∷◌, pos}
 use Rattle.rules.specs.Table.{count}
 use Rattle.rules.specs.Answers.{refusal}
 use Rattle.rules.specs.Limits.{is_pool}

@@ -1,7 +1,6 @@
 -- `sharers_among` meets its contract: each row, from the last down, is counted where it is a sharer's.
-use Rattle.std.proofs.Common.{◌≡◌, sym, ap, ◌∙◌, ◌+◌, ◌-◌, ◌≤◌, arith}
+use Rattle.std.proofs.Common.{sym, ap, ◌∙◌, arith}
 use Rattle.rules.specs.Sharing.{sharer}
-use Rattle.books.specs.Words.{stake_row_at}
 use Rattle.queries.proofs.QueryRows.{count-in, count-out, count_none}
 use Rattle.queries.proofs.sharers_among.Goals as goal
 

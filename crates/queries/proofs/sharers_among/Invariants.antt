@@ -1,12 +1,10 @@
-use mathlib.Core.Path.{◌≡◌, sym, ap, ◌∙◌}
+-- `sharers_among` counts from the last row down: n of the rows from row i on are sharers.
+use mathlib.Core.Path.{◌≡◌}
 use Prim.Native.Nat.{◌+◌, ◌-◌, ◌≤◌}
-use native.Mathlib.Omega.{arith}
-use borrow.Author.Rules.{rules}
 use Rattle.rules.specs.Table.{count}
 use Rattle.rules.specs.Sharing.{sharer}
 use Rattle.books.specs.Tables.{rows_from}
 use Rattle.books.specs.Words.{stake_row_at}
-use Rattle.queries.proofs.QueryRows.{count-in, count-out, count_none}
 use Rattle.queries.proofs.sharers_among.Given as goal
 
 abbrev pub invariant-loop-i : goal.invariant-loop-i

@@ -2,7 +2,6 @@
 use mathlib.Core.List.{[], ◌∷◌}
 use lib.Dec.{eqb}
 use lib.ListN.{length}
-use borrow.Author.Rules.{rules}
 use Rattle.rules.specs.Books.{rooms_lent}
 use Rattle.books.specs.Layout.{stake_width, offer_width, books_words}
 use Rattle.books.specs.Tables.{room_of}

@@ -1,9 +1,7 @@
 -- `put_offer` meets its contract: the words that `put_row` leaves are those of the rows with the row put (`offer-words`), and so hold them (`offer-done`).
-use mathlib.Core.Path.{refl, sym, ◌∙◌, subst}
+use mathlib.Core.Path.{sym, ◌∙◌, subst}
 use Prim.Native.Nat.{ℕ, ◌*◌, ◌≤◌}
-use native.Mathlib.Omega.{arith}
 use lib.ListN.{length}
-use borrow.Author.Rules.{rules}
 use Rattle.books.specs.Layout.{offer_width}
 use Rattle.books.specs.inner.Held.{offer_of}
 use Rattle.books.proofs.RowKinds.{room-words}

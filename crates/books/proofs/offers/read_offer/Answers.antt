@@ -1,7 +1,5 @@
 -- `read_offer` meets its contract: what a search finds is what the rules find (`find-offer`).
-use Rattle.std.proofs.Common.{◌≡◌, ◌<◌, sym, ap, ◌∙◌, arith}
-use Rattle.rows.specs.Lookup.{place_of}
-use Rattle.rows.specs.declared.Place.TheVariants.{At}
+use Rattle.std.proofs.Common.{sym, ap, ◌∙◌, arith}
 use Rattle.rows.proofs.Order.{found_at}
 use Rattle.rules.specs.Books.{no_offer}
 use Rattle.rules.specs.Table.{key_of}

@@ -1,9 +1,9 @@
 -- `fresh` meets its contract, refusal by refusal and then as it is done (`Opened`).
-use Rattle.std.proofs.Common.{◌≡◌, ℕ, ◌^◌, ◌<◌, List, length, sym, ap, ◌∙◌, true, arith}
+use Rattle.std.proofs.Common.{ℕ, ◌^◌, ◌<◌, List, length, sym, ap, ◌∙◌, arith}
 use lib.ListN.{set, length-replicate}
 use Rattle.books.specs.Layout.{admin_word}
 use Rattle.books.specs.Words.{Tables, tables}
-use Rattle.books.specs.Fresh.{lent, renewed}
+use Rattle.books.specs.Fresh.{renewed}
 use Rattle.books.proofs.Good.{same_tables}
 use Rattle.books.proofs.Opened.{lent-parts, fresh-no-admin, fresh-not-lent, fresh-done}
 use Rattle.books.proofs.opening.fresh.Goals as goal

@@ -1,13 +1,8 @@
-use mathlib.Core.Path.{◌≡◌, refl, ap, ◌∙◌}
-use mathlib.Core.List.{List, ◌++◌, append-nil}
-use Prim.Native.Nat.{ℕ, ◌-◌, ◌≤◌}
-use native.Mathlib.Nat.{zero-add}
-use native.Mathlib.Omega.{arith}
-use lib.ListN.{length, length-set, length-replicate, drop, drop_of_length-le}
-use lib.Seq.{paste, paste-zero}
-use borrow.Author.Rules.{rules}
+use mathlib.Core.Path.{◌≡◌}
+use Prim.Native.Nat.{◌-◌, ◌≤◌}
+use lib.ListN.{length}
+use lib.Seq.{paste}
 use Rattle.rows.specs.Rows.{zeros}
-use Rattle.rows.proofs.Words.{clear-word, put-over}
 use Rattle.books.proofs.opening.wipe.Given as goal
 
 abbrev pub invariant-loop-j : goal.invariant-loop-j

@@ -3,12 +3,9 @@
 use mathlib.Core.Path.{◌≡◌, refl, sym, ap, ◌∙◌}
 use mathlib.Core.Bool.{true}
 use Prim.Native.Nat.{◌+◌, ◌-◌, ◌≤◌, ◌<◌}
-use native.Mathlib.Nat.{div-mul-le_self}
 use native.Mathlib.Omega.{arith}
 use lib.IntN.{pos}
-use lib.ListN.{length, get_or}
-use borrow.Author.Rules.{rules}
-use borrow.Author.Tests.{not-true, not-false}
+use lib.ListN.{get_or}
 use Rattle.whole.proofs.Linear.{whole, sum}
 use Rattle.rules.specs.Limits.{limit}
 use Rattle.rules.specs.Table.{key_of}
@@ -18,7 +15,7 @@ use Rattle.books.specs.Layout.{offer_width, pools}
 use Rattle.books.specs.Words.{offer_row_at}
 use Rattle.books.specs.inner.Held.{offer_of}
 use Rattle.books.proofs.OfferRows.{tested-pool, tested-most, tested-paid}
-use Rattle.books.proofs.Walks.{Walked, Turn, walk_start, walk_end, walk-stop, walk-order, walk-bad, walk_turn}
+use Rattle.books.proofs.Walks.{Turn, walk_end, walk-stop, walk-order, walk-bad, walk_turn}
 use Rattle.books.proofs.pass.offers_pass.Goals as goal
 use Rattle.books.proofs.pass.offers_pass.Lts as lts
 use Rattle.books.proofs.pass.offers_pass.Reads as reads

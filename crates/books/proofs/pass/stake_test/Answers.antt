@@ -7,7 +7,6 @@ use lib.Dec.{leb, eqb}
 use lib.IntN.{nat_abs}
 use mir.Syntax.{w64}
 use mir.Val.{to_z}
-use borrow.Author.Rules.{rules}
 use Rattle.rules.specs.Limits.{is_pool, is_number}
 use Rattle.rules.specs.Books.{is_zero, stake_gone}
 use Rattle.rules.specs.Formed.{stake_test}

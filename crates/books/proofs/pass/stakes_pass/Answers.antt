@@ -2,14 +2,10 @@
 -- the sums of the rows passed.
 use mathlib.Core.Path.{◌≡◌, refl, sym, ap, ◌∙◌}
 use mathlib.Core.Bool.{true}
-use Prim.Native.Nat.{◌-◌, ◌<◌}
-use native.Mathlib.Nat.{div-mul-le_self}
+use Prim.Native.Nat.{◌<◌}
 use native.Mathlib.Omega.{arith}
-use lib.ListN.{length}
 use mir.Syntax.{w64}
 use mir.Val.{to_z}
-use borrow.Author.Rules.{rules}
-use borrow.Author.Tests.{not-true, not-false}
 use Rattle.whole.specs.Whole.{Within}
 use Rattle.whole.proofs.Linear.{whole}
 use Rattle.rules.specs.Limits.{limit}
@@ -20,7 +16,7 @@ use Rattle.books.specs.Layout.{stake_width, pools}
 use Rattle.books.specs.Words.{stake_row_at}
 use Rattle.books.specs.inner.Held.{stake_of}
 use Rattle.books.proofs.StakeRows.{tested-pool, tested-size}
-use Rattle.books.proofs.Walks.{Walked, Turn, walk_start, walk_end, walk-stop, walk-order, walk-bad, walk_turn}
+use Rattle.books.proofs.Walks.{Turn, walk_end, walk-stop, walk-order, walk-bad, walk_turn}
 use Rattle.books.proofs.pass.stakes_pass.Goals as goal
 use Rattle.books.proofs.pass.stakes_pass.Lts as lts
 use Rattle.books.proofs.pass.stakes_pass.Reads as reads

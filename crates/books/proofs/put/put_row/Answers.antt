@@ -1,8 +1,7 @@
 -- `put_row` meets its contract: each arm of the match has the equation of what `place_of` returned.
-use Rattle.std.proofs.Common.{ℕ, ◌+◌, ◌*◌, ◌≤◌, length, sym, ap₂, ◌∙◌, subst, arith}
+use Rattle.std.proofs.Common.{sym, ◌∙◌}
 use Rattle.rows.specs.inner.Order.{key_of_row}
 use Rattle.rows.proofs.Order.{row_in, found_at, found-gap}
-use Rattle.books.specs.inner.Put.{put_count}
 use Rattle.books.proofs.put.put_row.Goals as goal
 
 pub remove-requires-clause-at_lt_used : goal.remove-requires-clause-at_lt_used

@@ -1,14 +1,11 @@
 -- `put_stake` meets its contract: the words that `put_row` leaves are those of the rows with the row put (`stake-words`), and so hold them (`stake-done`).
-use mathlib.Core.Path.{◌≡◌, sym, ap, ap₂, ◌∙◌, subst}
+use mathlib.Core.Path.{sym, ap₂, ◌∙◌, subst}
 use mathlib.Core.Bool.{Bool}
 use mathlib.Core.List.{List}
 use Prim.Native.Nat.{ℕ, ◌*◌, ◌≤◌}
-use native.Mathlib.Omega.{arith}
 use lib.ListN.{length}
-use borrow.Author.Rules.{rules}
 use Rattle.rows.specs.inner.Order.{key_of_row}
 use Rattle.rows.specs.Lookup.{place_of}
-use Rattle.rules.specs.Books.{stake_key}
 use Rattle.books.specs.Layout.{stake_width}
 use Rattle.books.specs.inner.Put.{put_words, put_count}
 use Rattle.books.specs.inner.Held.{stake_of}

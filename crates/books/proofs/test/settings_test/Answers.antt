@@ -3,7 +3,6 @@ use mathlib.Core.Bool.{not}
 use mathlib.Core.List.{[], ◌∷◌}
 use lib.Dec.{eqb, leb}
 use lib.ListN.{get_or}
-use borrow.Author.Rules.{rules}
 use Rattle.rules.specs.Limits.{greatest_rate}
 use Rattle.rules.proofs.Conditions.{all-joined}
 use Rattle.books.specs.Layout.{admin_word, paused_word, rate_word}

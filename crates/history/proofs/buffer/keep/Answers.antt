@@ -1,12 +1,10 @@
 -- `keep` meets its contract. The loop's invariant: the first i bytes are moved. The measure is what is left to move.
-use mathlib.Core.Path.{◌≡◌, refl, ap, ◌∙◌}
+use mathlib.Core.Path.{ap, ◌∙◌}
 use mathlib.Core.List.{List}
-use Prim.Native.Nat.{ℕ, ◌+◌, ◌-◌, ◌≤◌}
+use Prim.Native.Nat.{ℕ, ◌+◌}
 use native.Mathlib.Omega.{arith}
-use lib.ListN.{length, get_or, set, length-set}
-use Rattle.history.specs.Buffers.{at_front}
+use lib.ListN.{get_or, set, length-set}
 use Rattle.history.proofs.Moving.{moved_more}
-use borrow.Author.Rules.{rules}
 use Rattle.history.proofs.buffer.keep.Goals as goal
 
 pub loop-i-preserved : goal.loop-i-preserved

@@ -1,11 +1,7 @@
-use mathlib.Core.Path.{◌≡◌, refl, ap, ◌∙◌}
-use mathlib.Core.List.{List}
-use Prim.Native.Nat.{ℕ, ◌+◌, ◌-◌, ◌≤◌}
-use native.Mathlib.Omega.{arith}
-use lib.ListN.{length, get_or, set, length-set}
+use mathlib.Core.Path.{◌≡◌}
+use Prim.Native.Nat.{◌-◌, ◌≤◌}
+use lib.ListN.{length}
 use Rattle.history.specs.Buffers.{at_front}
-use Rattle.history.proofs.Moving.{moved_more}
-use borrow.Author.Rules.{rules}
 use Rattle.history.proofs.buffer.keep.Given as goal
 
 abbrev pub invariant-loop-i : goal.invariant-loop-i

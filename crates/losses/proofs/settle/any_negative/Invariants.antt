@@ -1,17 +1,5 @@
-use borrow.Author.Rules.{rules}
-use mathlib.Core.Path.{◌≡◌, refl, sym, ◌∙◌, ap, subst}
-use mathlib.Core.Bool.{Bool, true, false, true≢false}
-use mathlib.Core.Logic.{⊎_elim}
-use Prim.Native.Nat.{ℕ, ◌-◌, ◌≤◌}
-use native.Mathlib.Omega.{arith}
-use lib.IntN.{ℤ, pos}
-use lib.Signed.{lt_z}
-use mir.Syntax.{w64}
-use mir.Val.{to_z}
-use Rattle.whole.specs.Whole.{dn}
-use Rattle.whole.proofs.Linear.{whole, one}
-use Rattle.rows.proofs.Order.{le-cases}
-use Rattle.losses.specs.inner.Settling.{NoneBelow, stake_at_row}
+use Prim.Native.Nat.{◌-◌, ◌≤◌}
+use Rattle.losses.specs.inner.Settling.{NoneBelow}
 use Rattle.losses.proofs.settle.any_negative.Given as goal
 
 abbrev pub invariant-loop-i : goal.invariant-loop-i

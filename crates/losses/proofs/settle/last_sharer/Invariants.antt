@@ -1,13 +1,7 @@
-use borrow.Author.Rules.{rules}
-use mathlib.Core.Path.{◌≡◌, sym, ◌∙◌, subst}
-use mathlib.Core.Logic.{⊎_elim}
-use mathlib.Core.List.{List}
-use Prim.Native.Nat.{ℕ, ◌≤◌, ◌<◌}
-use native.Mathlib.Omega.{arith}
+use mathlib.Core.Path.{◌≡◌}
+use Prim.Native.Nat.{ℕ, ◌<◌}
 use Rattle.rows.specs.Rows.{word}
-use Rattle.rows.proofs.Order.{le-cases, lt-or-le}
 use Rattle.books.specs.Layout.{stake_width, stake_word}
-use Rattle.losses.specs.inner.Settling.{SomeSharer}
 use Rattle.losses.proofs.settle.last_sharer.Given as goal
 
 abbrev pub invariant-loop-i : goal.invariant-loop-i

@@ -1,15 +1,12 @@
 -- `over_limit` meets its contract: where no stake is below 0 the rest is no more than the loss (`rest-falls`), else it is computed.
-use borrow.Author.Rules.{rules}
-use mathlib.Core.Path.{◌≡◌, refl, sym, ◌∙◌, ap, ap₂, subst⁻¹}
+use mathlib.Core.Path.{◌≡◌, refl, sym, ap, ap₂, subst⁻¹}
 use Prim.Native.Nat.{◌+◌, ◌-◌}
 use native.Mathlib.Omega.{arith}
-use borrow.Author.Tests.{not-true}
 use lib.IntN.{ℤ, pos, ◌-ℤ◌}
-use lib.Signed.{lt_z}
 use mir.Syntax.{w64}
 use mir.Val.{to_z, SFits}
 use Rattle.whole.proofs.Linear.{whole}
-use Rattle.losses.specs.inner.Settling.{NoneBelow, stake_at_row, least, left_last, rest_after}
+use Rattle.losses.specs.inner.Settling.{NoneBelow, stake_at_row, left_last, rest_after}
 use Rattle.losses.proofs.Rest.{rest-falls, rest-bound, not-over}
 use Rattle.losses.proofs.settle.over_limit.Goals as goal
 use Rattle.losses.proofs.settle.over_limit.Lts as lts

@@ -1,14 +1,12 @@
 -- `rest_for` meets its contract. The loop's invariant: what is left to do makes the rest that the whole is to make, and the rest so far is
 -- bounded (`Resting`).
-use borrow.Author.Rules.{rules}
-use mathlib.Core.Path.{◌≡◌, refl, sym, ◌∙◌, ap, subst⁻¹}
+use mathlib.Core.Path.{◌≡◌, sym, ◌∙◌, ap, subst⁻¹}
 use mathlib.Core.Bool.{false}
-use Prim.Native.Nat.{ℕ, ◌+◌, ◌-◌, ◌≤◌}
+use Prim.Native.Nat.{ℕ, ◌+◌, ◌-◌}
 use native.Mathlib.Omega.{arith}
-use lib.IntN.{ℤ, pos, ◌-ℤ◌}
+use lib.IntN.{ℤ, ◌-ℤ◌}
 use mir.Syntax.{w64}
 use mir.Val.{to_z, SFits}
-use mir.ValLaws.{to_z_pos}
 use Rattle.whole.specs.Whole.{Within}
 use Rattle.rules.specs.Limits.{limit}
 use Rattle.losses.specs.inner.Settling.{stake_at_row, rest_after}

@@ -1,16 +1,10 @@
-use borrow.Author.Rules.{rules}
-use mathlib.Core.Path.{◌≡◌, refl, sym, ◌∙◌, ap, subst⁻¹}
-use mathlib.Core.Bool.{false}
-use Prim.Native.Nat.{ℕ, ◌+◌, ◌-◌, ◌≤◌}
-use native.Mathlib.Omega.{arith}
-use lib.IntN.{ℤ, pos, ◌-ℤ◌}
+use mathlib.Core.Path.{◌≡◌}
+use Prim.Native.Nat.{◌-◌, ◌≤◌}
+use lib.IntN.{pos}
 use mir.Syntax.{w64}
-use mir.Val.{to_z, SFits}
-use mir.ValLaws.{to_z_pos}
-use Rattle.whole.specs.Whole.{Within}
-use Rattle.rules.specs.Limits.{limit}
-use Rattle.losses.specs.inner.Settling.{stake_at_row, rest_after}
-use Rattle.losses.proofs.Rest.{Resting, rest-done, rest-step, rest-on, rest-fits}
+use mir.Val.{to_z}
+use Rattle.losses.specs.inner.Settling.{rest_after}
+use Rattle.losses.proofs.Rest.{Resting}
 use Rattle.losses.proofs.settle.rest_for.Given as goal
 
 abbrev pub invariant-loop-i : goal.invariant-loop-i

@@ -1,7 +1,6 @@
 -- `claim_payout` meets its contract: settled, then refused, answered or paid.
 use mathlib.Core.Path.{◌≡◌, ap, ◌∙◌}
 use native.Mathlib.Omega.{arith}
-use borrow.Author.Rules.{rules}
 use Rattle.rules.specs.Payouts.{claim_payout}
 use Rattle.books.specs.Words.{Tables, tables, books_of, acted}
 use Rattle.payouts.specs.declared.claim.Claimed.{Claimed}

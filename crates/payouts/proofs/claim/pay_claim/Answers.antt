@@ -1,7 +1,5 @@
 -- `pay_claim` meets its contract: the loss, then the offer's row, each on good tables (`LossWrites`).
 use mathlib.Core.Path.{refl}
-use native.Mathlib.Omega.{arith}
-use borrow.Author.Rules.{rules}
 use Rattle.books.specs.Words.{Tables, tables}
 use Rattle.payouts.proofs.LossWrites as writes
 use Rattle.payouts.proofs.claim.pay_claim.Goals as goal

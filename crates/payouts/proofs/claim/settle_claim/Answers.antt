@@ -1,6 +1,6 @@
 -- `settle_claim` meets its contract: each answer is its rung of `claim_settled`.
 use mathlib.Core.Path.{◌≡◌, sym, ap, ◌∙◌}
-use Prim.Native.Nat.{ℕ, ◌-◌, ◌^◌, ◌≤◌, ◌<◌}
+use Prim.Native.Nat.{ℕ, ◌-◌, ◌^◌, ◌<◌}
 use native.Mathlib.Omega.{arith}
 use borrow.Author.Tests.{eq-eqb, ne_eqb}
 use lib.Signed.{mag}
@@ -31,7 +31,7 @@ returns-then-start-ne0 c =
     let tab : Tables = tables c.args.stakes.now c.args.offers.now c.args.books.now in
     let b : Books = books_of (tab) in
     let opened-is : c.open_call-start.result ≡ opening (b) c.args.signer c.args.c.amount =
-        let small : mag c.args.c.amount < 2 ^ 63 = search in
+    let small : mag c.args.c.amount < 2 ^ 63 = search in
     opened (tab) c.args.signer c.args.c.amount (record { sfits = small }) _ c.open_call-start.ensures
     in
     stopped (b) c.args.signer c.args.c.amount _ (opened-is) c.if-start-ne0.true claim.Refused _
@@ -47,7 +47,7 @@ returns-then-cover-eq0 c =
     let tab : Tables = tables c.args.stakes.now c.args.offers.now c.args.books.now in
     let b : Books = books_of (tab) in
     let opened-is : c.open_call-start.result ≡ opening (b) c.args.signer c.args.c.amount =
-        let small : mag c.args.c.amount < 2 ^ 63 = search in
+    let small : mag c.args.c.amount < 2 ^ 63 = search in
     opened (tab) c.args.signer c.args.c.amount (record { sfits = small }) _ c.open_call-start.ensures
     in
     let past_is : Past (b) c.args.signer c.args.c.amount c.open_call-start.result.amount = past (b) c.args.signer c.args.c.amount _ (opened-is) c.if-start-ne0.false in
@@ -60,7 +60,7 @@ claimable-paid-requires c =
     let tab : Tables = tables c.args.stakes.now c.args.offers.now c.args.books.now in
     let b : Books = books_of (tab) in
     let opened-is : c.open_call-start.result ≡ opening (b) c.args.signer c.args.c.amount =
-        let small : mag c.args.c.amount < 2 ^ 63 = search in
+    let small : mag c.args.c.amount < 2 ^ 63 = search in
     opened (tab) c.args.signer c.args.c.amount (record { sfits = small }) _ c.open_call-start.ensures
     in
     let past_is : Past (b) c.args.signer c.args.c.amount c.open_call-start.result.amount = past (b) c.args.signer c.args.c.amount _ (opened-is) c.if-start-ne0.false in
@@ -75,14 +75,14 @@ returns-then-paid-eq0 c =
     let b : Books = books_of (tab) in
     let n : ℕ = up (claimable (b) c.args.c) in
     let opened-is : c.open_call-start.result ≡ opening (b) c.args.signer c.args.c.amount =
-        let small : mag c.args.c.amount < 2 ^ 63 = search in
+    let small : mag c.args.c.amount < 2 ^ 63 = search in
     opened (tab) c.args.signer c.args.c.amount (record { sfits = small }) _ c.open_call-start.ensures
     in
     let past_is : Past (b) c.args.signer c.args.c.amount c.open_call-start.result.amount = past (b) c.args.signer c.args.c.amount _ (opened-is) c.if-start-ne0.false in
     let row_is : c.find_offer-old.result ≡ found (tab) c.args.c.pool c.args.c.offer = c.find_offer-old.ensures ∙ found-is (tab) c.args.c.pool c.args.c.offer in
     let cover-is : c.find_offer-old.result.row.reserved - c.find_offer-old.result.row.paid ≡ cover_of (b) c.args.c = ap (λ (f : Found). f.row.reserved - f.row.paid) (row_is) in
     let value : c.claimable-paid.result ≡ n =
-        c.claimable-paid.ensures
+    c.claimable-paid.ensures
     ∙ ap up (ap (claimable_of c.args.books.now c.args.c.pool c.open_call-start.result.amount) (cover-is) ∙ claims.claimable-is (tab) c.requires.books_value c.args.signer c.args.c c.requires.claim_asked _ (past_is))
     in
     rw (eq-eqb _ 0 (past_is).none, ne_eqb _ 0 (λ z. c.if-cover-eq0.false (cover-is ∙ z)), eq-eqb _ 0 (sym (value) ∙ c.if-paid-eq0.true)) (ap claim.Nothing (cover-is))
@@ -99,14 +99,14 @@ returns c =
     let b : Books = books_of (tab) in
     let n : ℕ = up (claimable (b) c.args.c) in
     let opened-is : c.open_call-start.result ≡ opening (b) c.args.signer c.args.c.amount =
-        let small : mag c.args.c.amount < 2 ^ 63 = search in
+    let small : mag c.args.c.amount < 2 ^ 63 = search in
     opened (tab) c.args.signer c.args.c.amount (record { sfits = small }) _ c.open_call-start.ensures
     in
     let past_is : Past (b) c.args.signer c.args.c.amount c.open_call-start.result.amount = past (b) c.args.signer c.args.c.amount _ (opened-is) c.if-start-ne0.false in
     let row_is : c.find_offer-old.result ≡ found (tab) c.args.c.pool c.args.c.offer = c.find_offer-old.ensures ∙ found-is (tab) c.args.c.pool c.args.c.offer in
     let cover-is : c.find_offer-old.result.row.reserved - c.find_offer-old.result.row.paid ≡ cover_of (b) c.args.c = ap (λ (f : Found). f.row.reserved - f.row.paid) (row_is) in
     let value : c.claimable-paid.result ≡ n =
-        c.claimable-paid.ensures
+    c.claimable-paid.ensures
     ∙ ap up (ap (claimable_of c.args.books.now c.args.c.pool c.open_call-start.result.amount) (cover-is) ∙ claims.claimable-is (tab) c.requires.books_value c.args.signer c.args.c c.requires.claim_asked _ (past_is))
     in
     let sum_is : c.unpaid.result ≡ unpaid_of (b) c.args.c.pool = c.unpaid.ensures ∙ unpaid-is (tab) c.args.c.pool (omega (arith, c.requires.claim_asked.pool)) in
@@ -126,14 +126,14 @@ overflow_sub-change c =
     let b : Books = books_of (tab) in
     let n : ℕ = up (claimable (b) c.args.c) in
     let opened-is : c.open_call-start.result ≡ opening (b) c.args.signer c.args.c.amount =
-        let small : mag c.args.c.amount < 2 ^ 63 = search in
+    let small : mag c.args.c.amount < 2 ^ 63 = search in
     opened (tab) c.args.signer c.args.c.amount (record { sfits = small }) _ c.open_call-start.ensures
     in
     let past_is : Past (b) c.args.signer c.args.c.amount c.open_call-start.result.amount = past (b) c.args.signer c.args.c.amount _ (opened-is) c.if-start-ne0.false in
     let row_is : c.find_offer-old.result ≡ found (tab) c.args.c.pool c.args.c.offer = c.find_offer-old.ensures ∙ found-is (tab) c.args.c.pool c.args.c.offer in
     let cover-is : c.find_offer-old.result.row.reserved - c.find_offer-old.result.row.paid ≡ cover_of (b) c.args.c = ap (λ (f : Found). f.row.reserved - f.row.paid) (row_is) in
     let value : c.claimable-paid.result ≡ n =
-        c.claimable-paid.ensures
+    c.claimable-paid.ensures
     ∙ ap up (ap (claimable_of c.args.books.now c.args.c.pool c.open_call-start.result.amount) (cover-is) ∙ claims.claimable-is (tab) c.requires.books_value c.args.signer c.args.c c.requires.claim_asked _ (past_is))
     in
     let sum_is : c.unpaid.result ≡ unpaid_of (b) c.args.c.pool = c.unpaid.ensures ∙ unpaid-is (tab) c.args.c.pool (omega (arith, c.requires.claim_asked.pool)) in

@@ -1,6 +1,5 @@
 -- `take_loss` meets its contract: the facts are those of good tables (`LossWrites`), the code's part is what each call ensures.
 use mathlib.Core.Path.{◌≡◌, ◌∙◌}
-use borrow.Author.Rules.{rules}
 use Rattle.whole.specs.Whole.{up}
 use Rattle.rules.specs.Books.{balance_of}
 use Rattle.books.specs.Words.{Tables, tables, books_of}
@@ -22,7 +21,7 @@ pub overflow_sub-balance : goal.overflow_sub-balance
 overflow_sub-balance c =
     let tab : Tables = tables c.args.stakes.now c.args.offers.now c.args.books.now in
     let balance-is : c.balance-balance.result ≡ up (balance_of (books_of (tab)) c.args.pool) =
-        let a = c.args in
+    let a = c.args in
     c.balance-balance.ensures ∙ writes.balance-word a.stakes.now a.offers.now a.books.now a.pool a.loss c.requires (c.slice_known-2-1.given a.pool).fits
     in
     let a = c.args in
@@ -37,7 +36,7 @@ pub returns-in-Rows : goal.returns-in-Rows
 returns-in-Rows c =
     let tab : Tables = tables c.args.stakes.now c.args.offers.now c.args.books.now in
     let balance-is : c.balance-balance.result ≡ up (balance_of (books_of (tab)) c.args.pool) =
-        let a = c.args in
+    let a = c.args in
     c.balance-balance.ensures ∙ writes.balance-word a.stakes.now a.offers.now a.books.now a.pool a.loss c.requires (c.slice_known-2-1.given a.pool).fits
     in
     let a = c.args in
@@ -48,7 +47,7 @@ pub returns-in-OverLimit : goal.returns-in-OverLimit
 returns-in-OverLimit c =
     let tab : Tables = tables c.args.stakes.now c.args.offers.now c.args.books.now in
     let balance-is : c.balance-balance.result ≡ up (balance_of (books_of (tab)) c.args.pool) =
-        let a = c.args in
+    let a = c.args in
     c.balance-balance.ensures ∙ writes.balance-word a.stakes.now a.offers.now a.books.now a.pool a.loss c.requires (c.slice_known-2-1.given a.pool).fits
     in
     let a = c.args in

@@ -1,6 +1,5 @@
 -- `write_offer` meets its contract: the facts are those of good tables (`OfferWrites`).
 use native.Mathlib.Omega.{arith}
-use borrow.Author.Rules.{rules}
 use Rattle.books.specs.Words.{tables}
 use Rattle.books.proofs.Good.{good-read}
 use Rattle.payouts.proofs.OfferWrites.{can-put, row_written_lem}

@@ -1,6 +1,4 @@
 -- `pay_loss` meets its contract.
-use native.Mathlib.Omega.{arith}
-use borrow.Author.Rules.{rules}
 use Rattle.books.specs.Words.{Tables, tables}
 use Rattle.payouts.proofs.LossWrites as writes
 use Rattle.payouts.proofs.pay.pay_loss.Goals as goal

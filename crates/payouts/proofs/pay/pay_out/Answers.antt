@@ -1,6 +1,5 @@
 -- `pay_out` meets its contract: settled, then refused, answered or paid.
 use mathlib.Core.Path.{◌≡◌, ap, ◌∙◌}
-use borrow.Author.Rules.{rules}
 use Rattle.rules.specs.Payouts.{pay_out}
 use Rattle.books.specs.Words.{Tables, tables, books_of, acted}
 use Rattle.payouts.specs.declared.pay.Payment.{Payment}

@@ -28,7 +28,7 @@ returns-then-start-ne0 c =
     let tab : Tables = tables c.args.stakes.now c.args.offers.now c.args.books.now in
     let b : Books = books_of (tab) in
     let opened-is : c.open_call-start.result ≡ opening (b) c.args.signer c.args.c.amount =
-        let small : mag c.args.c.amount < 2 ^ 63 = search in
+    let small : mag c.args.c.amount < 2 ^ 63 = search in
     opened (tab) c.args.signer c.args.c.amount (record { sfits = small }) _ c.open_call-start.ensures
     in
     stopped (b) c.args.signer c.args.c.amount _ (opened-is) c.if-start-ne0.true pay.Refused _
@@ -39,7 +39,7 @@ returns-then-c-eq0 c =
     let tab : Tables = tables c.args.stakes.now c.args.offers.now c.args.books.now in
     let b : Books = books_of (tab) in
     let opened-is : c.open_call-start.result ≡ opening (b) c.args.signer c.args.c.amount =
-        let small : mag c.args.c.amount < 2 ^ 63 = search in
+    let small : mag c.args.c.amount < 2 ^ 63 = search in
     opened (tab) c.args.signer c.args.c.amount (record { sfits = small }) _ c.open_call-start.ensures
     in
     let past_is : Past (b) c.args.signer c.args.c.amount c.open_call-start.result.amount = past (b) c.args.signer c.args.c.amount _ (opened-is) c.if-start-ne0.false in
@@ -51,7 +51,7 @@ returns-then-c-eq1 c =
     let tab : Tables = tables c.args.stakes.now c.args.offers.now c.args.books.now in
     let b : Books = books_of (tab) in
     let opened-is : c.open_call-start.result ≡ opening (b) c.args.signer c.args.c.amount =
-        let small : mag c.args.c.amount < 2 ^ 63 = search in
+    let small : mag c.args.c.amount < 2 ^ 63 = search in
     opened (tab) c.args.signer c.args.c.amount (record { sfits = small }) _ c.open_call-start.ensures
     in
     let past_is : Past (b) c.args.signer c.args.c.amount c.open_call-start.result.amount = past (b) c.args.signer c.args.c.amount _ (opened-is) c.if-start-ne0.false in
@@ -62,7 +62,7 @@ payable-paid-requires c =
     let tab : Tables = tables c.args.stakes.now c.args.offers.now c.args.books.now in
     let b : Books = books_of (tab) in
     let opened-is : c.open_call-start.result ≡ opening (b) c.args.signer c.args.c.amount =
-        let small : mag c.args.c.amount < 2 ^ 63 = search in
+    let small : mag c.args.c.amount < 2 ^ 63 = search in
     opened (tab) c.args.signer c.args.c.amount (record { sfits = small }) _ c.open_call-start.ensures
     in
     let past_is : Past (b) c.args.signer c.args.c.amount c.open_call-start.result.amount = past (b) c.args.signer c.args.c.amount _ (opened-is) c.if-start-ne0.false in
@@ -74,7 +74,7 @@ returns-then-paid-eq0 c =
     let tab : Tables = tables c.args.stakes.now c.args.offers.now c.args.books.now in
     let b : Books = books_of (tab) in
     let opened-is : c.open_call-start.result ≡ opening (b) c.args.signer c.args.c.amount =
-        let small : mag c.args.c.amount < 2 ^ 63 = search in
+    let small : mag c.args.c.amount < 2 ^ 63 = search in
     opened (tab) c.args.signer c.args.c.amount (record { sfits = small }) _ c.open_call-start.ensures
     in
     let past_is : Past (b) c.args.signer c.args.c.amount c.open_call-start.result.amount = past (b) c.args.signer c.args.c.amount _ (opened-is) c.if-start-ne0.false in
@@ -87,7 +87,7 @@ returns c =
     let tab : Tables = tables c.args.stakes.now c.args.offers.now c.args.books.now in
     let b : Books = books_of (tab) in
     let opened-is : c.open_call-start.result ≡ opening (b) c.args.signer c.args.c.amount =
-        let small : mag c.args.c.amount < 2 ^ 63 = search in
+    let small : mag c.args.c.amount < 2 ^ 63 = search in
     opened (tab) c.args.signer c.args.c.amount (record { sfits = small }) _ c.open_call-start.ensures
     in
     let past_is : Past (b) c.args.signer c.args.c.amount c.open_call-start.result.amount = past (b) c.args.signer c.args.c.amount _ (opened-is) c.if-start-ne0.false in

@@ -1,7 +1,6 @@
 -- `reserve_payout` meets its contract: settled, then refused, answered or written.
 use mathlib.Core.Path.{◌≡◌, ap, ap₂, ◌∙◌}
 use native.Mathlib.Omega.{arith}
-use borrow.Author.Rules.{rules}
 use Rattle.rules.specs.Payouts.{reserve_payout}
 use Rattle.books.specs.Words.{Tables, tables, books_of, result_of, acted}
 use Rattle.payouts.specs.declared.reserve.Reserved.{Reserved}

@@ -3,7 +3,6 @@ use mathlib.Core.Path.{◌≡◌, sym, ap, ◌∙◌}
 use mathlib.Core.Bool.{◌&&◌}
 use Prim.Native.Nat.{ℕ, ◌+◌, ◌^◌, ◌≤◌, ◌<◌}
 use native.Mathlib.Omega.{arith}
-use borrow.Author.Rules.{rules}
 use borrow.Author.Tests.{eq-eqb, ne_eqb, lt-ltb, le-ltb}
 use lib.Dec.{eqb, leb}
 use lib.Signed.{mag}
@@ -15,7 +14,7 @@ use Rattle.rules.proofs.Writes.{OldOffer}
 use Rattle.books.specs.Layout.{offer_width}
 use Rattle.books.specs.Tables.{room_of}
 use Rattle.books.specs.Words.{Tables, tables, books_of}
-use Rattle.books.proofs.Good.{good-read, good-unpaid}
+use Rattle.books.proofs.Good.{good-read}
 use Rattle.books.proofs.Writing.{unpaid-is}
 use Rattle.payouts.specs.declared.offer.Found.{Found}
 use Rattle.payouts.specs.declared.reserve.Reserved.TheVariants as grant
@@ -38,7 +37,7 @@ returns-then-start-ne0 c =
     let tab : Tables = tables c.args.stakes.now c.args.offers.now c.args.books.now in
     let b : Books = books_of (tab) in
     let opened-is : c.open_call-start.result ≡ opening (b) c.args.signer c.args.c.amount =
-        let small : mag c.args.c.amount < 2 ^ 63 = search in
+    let small : mag c.args.c.amount < 2 ^ 63 = search in
     opened (tab) c.args.signer c.args.c.amount (record { sfits = small }) _ c.open_call-start.ensures
     in
     stopped (b) c.args.signer c.args.c.amount _ (opened-is) c.if-start-ne0.true grant.Refused _
@@ -54,7 +53,7 @@ grantable-granted-requires c =
     let b : Books = books_of (tab) in
     let old : OfferRow = offer_at (b) c.args.c.pool c.args.c.offer in
     let opened-is : c.open_call-start.result ≡ opening (b) c.args.signer c.args.c.amount =
-        let small : mag c.args.c.amount < 2 ^ 63 = search in
+    let small : mag c.args.c.amount < 2 ^ 63 = search in
     opened (tab) c.args.signer c.args.c.amount (record { sfits = small }) _ c.open_call-start.ensures
     in
     let past_is : Past (b) c.args.signer c.args.c.amount c.open_call-start.result.amount = past (b) c.args.signer c.args.c.amount _ (opened-is) c.if-start-ne0.false in
@@ -70,14 +69,14 @@ returns-then-granted-eq0 c =
     let old : OfferRow = offer_at (b) c.args.c.pool c.args.c.offer in
     let n : ℕ = up (grantable (b) c.args.c) in
     let opened-is : c.open_call-start.result ≡ opening (b) c.args.signer c.args.c.amount =
-        let small : mag c.args.c.amount < 2 ^ 63 = search in
+    let small : mag c.args.c.amount < 2 ^ 63 = search in
     opened (tab) c.args.signer c.args.c.amount (record { sfits = small }) _ c.open_call-start.ensures
     in
     let past_is : Past (b) c.args.signer c.args.c.amount c.open_call-start.result.amount = past (b) c.args.signer c.args.c.amount _ (opened-is) c.if-start-ne0.false in
     let row_is : c.find_offer-old.result ≡ found (tab) c.args.c.pool c.args.c.offer = c.find_offer-old.ensures ∙ found-is (tab) c.args.c.pool c.args.c.offer in
     let reserved-is : c.find_offer-old.result.row.reserved ≡ (old).reserved = ap (λ (f : Found). f.row.reserved) (row_is) in
     let value : c.grantable-granted.result ≡ n =
-        c.grantable-granted.ensures
+    c.grantable-granted.ensures
     ∙ ap up (ap (grantable_of c.args.books.now c.args.c.pool c.open_call-start.result.amount) (reserved-is) ∙ grants.grantable-is (tab) c.requires.books_value c.args.signer c.args.c c.requires.reserve_asked _ (past_is))
     in
     rw (eq-eqb _ 0 (past_is).none, eq-eqb _ 0 (sym (value) ∙ c.if-granted-eq0.true))
@@ -101,14 +100,14 @@ returns-then-old-granted c =
     let n : ℕ = up (grantable (b) c.args.c) in
     let old-is : OldOffer c.args.c.pool c.args.c.offer (old) = grants.old-is (tab) c.requires.books_value c.args.signer c.args.c c.requires.reserve_asked in
     let opened-is : c.open_call-start.result ≡ opening (b) c.args.signer c.args.c.amount =
-        let small : mag c.args.c.amount < 2 ^ 63 = search in
+    let small : mag c.args.c.amount < 2 ^ 63 = search in
     opened (tab) c.args.signer c.args.c.amount (record { sfits = small }) _ c.open_call-start.ensures
     in
     let past_is : Past (b) c.args.signer c.args.c.amount c.open_call-start.result.amount = past (b) c.args.signer c.args.c.amount _ (opened-is) c.if-start-ne0.false in
     let row_is : c.find_offer-old.result ≡ found (tab) c.args.c.pool c.args.c.offer = c.find_offer-old.ensures ∙ found-is (tab) c.args.c.pool c.args.c.offer in
     let reserved-is : c.find_offer-old.result.row.reserved ≡ (old).reserved = ap (λ (f : Found). f.row.reserved) (row_is) in
     let value : c.grantable-granted.result ≡ n =
-        c.grantable-granted.ensures
+    c.grantable-granted.ensures
     ∙ ap up (ap (grantable_of c.args.books.now c.args.c.pool c.open_call-start.result.amount) (reserved-is) ∙ grants.grantable-is (tab) c.requires.books_value c.args.signer c.args.c c.requires.reserve_asked _ (past_is))
     in
     let v = value in
@@ -124,19 +123,19 @@ returns-then-no_row c =
     let n : ℕ = up (grantable (b) c.args.c) in
     let old-is : OldOffer c.args.c.pool c.args.c.offer (old) = grants.old-is (tab) c.requires.books_value c.args.signer c.args.c c.requires.reserve_asked in
     let opened-is : c.open_call-start.result ≡ opening (b) c.args.signer c.args.c.amount =
-        let small : mag c.args.c.amount < 2 ^ 63 = search in
+    let small : mag c.args.c.amount < 2 ^ 63 = search in
     opened (tab) c.args.signer c.args.c.amount (record { sfits = small }) _ c.open_call-start.ensures
     in
     let past_is : Past (b) c.args.signer c.args.c.amount c.open_call-start.result.amount = past (b) c.args.signer c.args.c.amount _ (opened-is) c.if-start-ne0.false in
     let row_is : c.find_offer-old.result ≡ found (tab) c.args.c.pool c.args.c.offer = c.find_offer-old.ensures ∙ found-is (tab) c.args.c.pool c.args.c.offer in
     let reserved-is : c.find_offer-old.result.row.reserved ≡ (old).reserved = ap (λ (f : Found). f.row.reserved) (row_is) in
     let value : c.grantable-granted.result ≡ n =
-        c.grantable-granted.ensures
+    c.grantable-granted.ensures
     ∙ ap up (ap (grantable_of c.args.books.now c.args.c.pool c.open_call-start.result.amount) (reserved-is) ∙ grants.grantable-is (tab) c.requires.books_value c.args.signer c.args.c c.requires.reserve_asked _ (past_is))
     in
     let fits : (old).reserved + n ≤ limit = omega (arith, c.if-old-granted.false, value, reserved-is, (old-is).most) in
     let room-is : c.no_row.result ≡ no_offer_room (b) c.args.c =
-        c.no_row.ensures ∙ ap (λ (f : Found). eqb f.row.reserved 0 && leb (room_of offer_width c.args.offers.now) f.used) (row_is)
+    c.no_row.ensures ∙ ap (λ (f : Found). eqb f.row.reserved 0 && leb (room_of offer_width c.args.offers.now) f.used) (row_is)
     ∙ grants.room-is (tab) c.requires.books_value c.args.signer c.args.c c.requires.reserve_asked
     in
     rw (eq-eqb _ 0 (past_is).none, ne_eqb _ 0 (λ z. c.if-granted-eq0.false (value ∙ z)), le-ltb limit ((old).reserved + n) (fits), sym (room-is) ∙ c.if-no_row.true)
@@ -155,19 +154,19 @@ returns c =
     let n : ℕ = up (grantable (b) c.args.c) in
     let old-is : OldOffer c.args.c.pool c.args.c.offer (old) = grants.old-is (tab) c.requires.books_value c.args.signer c.args.c c.requires.reserve_asked in
     let opened-is : c.open_call-start.result ≡ opening (b) c.args.signer c.args.c.amount =
-        let small : mag c.args.c.amount < 2 ^ 63 = search in
+    let small : mag c.args.c.amount < 2 ^ 63 = search in
     opened (tab) c.args.signer c.args.c.amount (record { sfits = small }) _ c.open_call-start.ensures
     in
     let past_is : Past (b) c.args.signer c.args.c.amount c.open_call-start.result.amount = past (b) c.args.signer c.args.c.amount _ (opened-is) c.if-start-ne0.false in
     let row_is : c.find_offer-old.result ≡ found (tab) c.args.c.pool c.args.c.offer = c.find_offer-old.ensures ∙ found-is (tab) c.args.c.pool c.args.c.offer in
     let reserved-is : c.find_offer-old.result.row.reserved ≡ (old).reserved = ap (λ (f : Found). f.row.reserved) (row_is) in
     let value : c.grantable-granted.result ≡ n =
-        c.grantable-granted.ensures
+    c.grantable-granted.ensures
     ∙ ap up (ap (grantable_of c.args.books.now c.args.c.pool c.open_call-start.result.amount) (reserved-is) ∙ grants.grantable-is (tab) c.requires.books_value c.args.signer c.args.c c.requires.reserve_asked _ (past_is))
     in
     let fits : (old).reserved + n ≤ limit = omega (arith, c.if-old-granted.false, value, reserved-is, (old-is).most) in
     let room-is : c.no_row.result ≡ no_offer_room (b) c.args.c =
-        c.no_row.ensures ∙ ap (λ (f : Found). eqb f.row.reserved 0 && leb (room_of offer_width c.args.offers.now) f.used) (row_is)
+    c.no_row.ensures ∙ ap (λ (f : Found). eqb f.row.reserved 0 && leb (room_of offer_width c.args.offers.now) f.used) (row_is)
     ∙ grants.room-is (tab) c.requires.books_value c.args.signer c.args.c c.requires.reserve_asked
     in
     let sum_is : c.unpaid.result ≡ unpaid_of (b) c.args.c.pool = c.unpaid.ensures ∙ unpaid-is (tab) c.args.c.pool (omega (arith, c.requires.reserve_asked.pool)) in

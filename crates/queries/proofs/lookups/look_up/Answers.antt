@@ -1,5 +1,5 @@
 -- `look_up` meets its contract: the used rows of a table come first and ascend, and there are as many as are counted.
-use Rattle.std.proofs.Common.{◌≡◌, ℕ, sym, ap, ◌∙◌, subst, arith}
+use Rattle.std.proofs.Common.{ℕ, sym, ap, ◌∙◌, subst, arith}
 use borrow.Author.Tests.{eq-eqb}
 use Rattle.rows.specs.Rows.{Sorted, key_of}
 use Rattle.rows.specs.Lookup.{lookup}

@@ -1,5 +1,5 @@
 -- `look_up_offer` meets its contract: the gate, then the lookup.
-use Rattle.std.proofs.Common.{◌≡◌, ℕ, sym, ap, ◌∙◌}
+use Rattle.std.proofs.Common.{ℕ, sym, ap, ◌∙◌}
 use Rattle.rows.specs.Rows.{key_of}
 use Rattle.rows.specs.Lookup.{lookup}
 use Rattle.books.specs.Layout.{offer_width}

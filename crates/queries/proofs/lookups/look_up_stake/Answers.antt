@@ -1,5 +1,5 @@
 -- `look_up_stake` meets its contract: the gate, then the lookup.
-use Rattle.std.proofs.Common.{◌≡◌, ℕ, sym, ap, ◌∙◌}
+use Rattle.std.proofs.Common.{ℕ, sym, ap, ◌∙◌}
 use Rattle.rows.specs.Rows.{key_of}
 use Rattle.rows.specs.Lookup.{lookup}
 use Rattle.books.specs.Layout.{stake_width}
