@@ -2,7 +2,7 @@
 use mathlib.Core.Path.{◌≡◌, refl, ◌∙◌, ap}
 use mathlib.Core.Bool.{Bool, true, false, cond, and-false}
 use mathlib.Core.List.{List, [], ◌∷◌, ◌++◌}
-use Prim.Native.Nat.{ℕ, suc, ◌*◌, ◌/◌}
+use Prim.Native.Nat.{ℕ, suc, ◌-◌, ◌*◌, ◌/◌}
 use native.Mathlib.Nat.{zero-mul, zero-div}
 use native.Mathlib.Omega.{arith}
 use borrow.Author.Tests.{eqb-true, ne_eqb}
@@ -16,12 +16,12 @@ use Rattle.whole.proofs.Shares.{share-is}
 use Rattle.rules.specs.Limits.{flat, is_pool, is_number}
 use Rattle.rules.specs.Terms.{bank_accrued_yield}
 use Rattle.rules.specs.Table.{find, has, put, keep, each, sum_of}
-use Rattle.rules.specs.Books.{Books, StakeRow, is_zero, stake_gone, balance_of}
+use Rattle.rules.specs.Books.{Books, StakeRow, is_zero, stake_gone, balance_of, unpaid_of}
 use Rattle.rules.specs.Sharing.{sharer, sharers, cut_of, reductions, cut_row, lowered, shared}
 use Rattle.rules.specs.Calls.{ClaimCall}
 use Rattle.rules.specs.Answers.{not_by}
 use Rattle.rules.specs.Stakes.{no_stake_room, stake, overdrawn, unstake}
-use Rattle.rules.specs.Payouts.{available}
+use Rattle.rules.specs.Payouts.{cover_of, available}
 use Rattle.rules.specs.Step.{malformed, step}
 use Rattle.rules.specs.Samples.{books_after}
 use Rattle.rules.specs.Slips.{accrual_sum, Slips}
@@ -71,7 +71,7 @@ negative-share n loss balance rest s more =
 -- ---- "Using the flat claim rule for tiers"
 
 tier-claim : (b : Books) (c : ClaimCall) → (c.pool ≡ flat → ⊥) → available b c ≡ balance_of b c.pool
-tier-claim b c n = rw (ne_eqb c.pool flat n)
+tier-claim b c n = ap (λ (t : Bool). cond t (balance_of b c.pool -ℤ pos (unpaid_of b c.pool - cover_of b c)) (balance_of b c.pool)) (ne_eqb c.pool flat n)
 
 -- ---- "Freeing an accrual when a loss wipes the stake"
 

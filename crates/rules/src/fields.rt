@@ -5,6 +5,7 @@ ghost use Rattle.rules.specs.Table.{all};
 
 use crate::limits::LAST_TIME;
 
+#[tactic(auto, unfolding(crate::specs::Limits::is_pool))]
 pub fn is_pool(pool: u64) -> bool
     ensures { result ≡ is_pool pool }
 {

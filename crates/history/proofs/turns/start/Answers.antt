@@ -12,7 +12,7 @@ returns-then-code-ne0-clause-text_after c =
 
 pub returns-clause-text_after : goal.returns-clause-text_after
 returns-clause-text_after c =
-    start-good (tables c.args.stakes.now c.args.offers.now c.args.books.now) c.args.head.now c.args.text.now _ _ c.begin-code.ensures _ _ c.if-code-ne0.false c.write_opening-end.ensures.wrote
+    start-good (tables c.args.stakes.now c.args.offers.now c.args.books.now) c.args.head.now c.args.text.now _ _ c.begin-code.ensures _ _ (omega arith) c.write_opening-end.ensures.wrote
 
 pub returns-clause-books_after : goal.returns-clause-books_after
 returns-clause-books_after c =

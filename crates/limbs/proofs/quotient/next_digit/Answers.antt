@@ -73,8 +73,12 @@ module _ (b : lts.Start reads.Pre reads.Post) where
   one-too-large : left < taken → 1 ≤ guess
   one-too-large h = above 0 (omega arith)
 
-  two-too-large : v < taken - left → 2 ≤ guess
-  two-too-large h = above 1 (omega arith)
+  -- so where v is missing it is above 1: some is taken, so the guess is not 0, nor then the number divided
+  two-too-large : v ≤ taken - left → 2 ≤ guess
+  two-too-large h =
+      let some : 1 ≤ guess = one-too-large (omega arith) in
+      let divided : 0 < rest = omega (arith, top_set, under, mul-le-mul_right upper some) in
+      lt_of_mul-lt-mul_right v (omega (arith, whole, divided))
 
   -- the digit q that is k below the guess, and what it leaves
   lowered : (q k r : ℕ) → q + k ≡ guess → r + taken ≡ left + k * v → r < v → (q * v + r ≡ rest * 2 ^ 32 + half) × (r < v) × (q < 2 ^ 32)
@@ -86,13 +90,13 @@ pub returns-then-taken-left : goal.returns-then-taken-left
 returns-then-taken-left c = lowered c.before _ 0 _ (omega arith) (omega arith) (omega (arith, left_lt c.before))
 
 pub overflow_sub-result-then-short-v : goal.overflow_sub-result-then-short-v
-overflow_sub-result-then-short-v c = one-too-large c.before.before c.before.if-taken-left.false
+overflow_sub-result-then-short-v c = omega (arith, one-too-large c.before.before c.before.if-taken-left.false)
 
 pub returns-then-short-v : goal.returns-then-short-v
 returns-then-short-v c = lowered c.before.before _ 1 _ (omega (arith, overflow_sub-result-then-short-v c)) (omega arith) (omega arith)
 
 pub overflow_sub-result-2 : goal.overflow_sub-result-2
-overflow_sub-result-2 c = two-too-large c.before.before c.if-short-v.false
+overflow_sub-result-2 c = two-too-large c.before.before (omega arith)
 
 pub returns : goal.returns
 returns c = lowered c.before.before _ 2 _ (omega (arith, overflow_sub-result-2 c)) (omega (arith, taken-lt c.before.before)) (omega arith)

@@ -111,7 +111,7 @@ returns c =
     in
     let sum_is : c.unpaid.result ≡ unpaid_of (b) c.args.c.pool = c.unpaid.ensures ∙ unpaid-is (tab) c.args.c.pool (omega (arith, c.requires.claim_asked.pool)) in
     let v = value in
-    rw (eq-eqb _ 0 (past_is).none, ne_eqb _ 0 (λ z. c.if-cover-eq0.false (cover-is ∙ z)), ne_eqb _ 0 (λ z. c.if-paid-eq0.false (v ∙ z)))
+    rw (eq-eqb _ 0 (past_is).none, ne_eqb _ 0 (λ z. c.if-cover-eq0.false (cover-is ∙ z)), ne_eqb n 0 (λ z. omega (arith, v)))
     (claims.paid-is (tab) c.requires.books_value c.args.signer c.args.c c.requires.claim_asked _ _ _ (row_is) v (sum_is))
 
 pub overflow_sub-cover : goal.overflow_sub-cover

@@ -112,7 +112,7 @@ returns-then-old-granted c =
     in
     let v = value in
     let l : limit < (old).reserved + n = omega (arith, c.if-old-granted.true, v, reserved-is, (old-is).most) in
-    rw (eq-eqb _ 0 (past_is).none, ne_eqb _ 0 (λ z. c.if-granted-eq0.false (v ∙ z)), lt-ltb limit ((old).reserved + n) l)
+    rw (eq-eqb _ 0 (past_is).none, ne_eqb n 0 (λ z. omega (arith, v)), lt-ltb limit ((old).reserved + n) l)
 
 pub returns-then-no_row : goal.returns-then-no_row
 unfolding reserve_settled
@@ -171,5 +171,5 @@ returns c =
     in
     let sum_is : c.unpaid.result ≡ unpaid_of (b) c.args.c.pool = c.unpaid.ensures ∙ unpaid-is (tab) c.args.c.pool (omega (arith, c.requires.reserve_asked.pool)) in
     let v = value in
-    rw (eq-eqb _ 0 (past_is).none, ne_eqb _ 0 (λ z. c.if-granted-eq0.false (v ∙ z)), le-ltb limit ((old).reserved + n) (fits), sym (room-is) ∙ c.if-no_row.false)
+    rw (eq-eqb _ 0 (past_is).none, ne_eqb n 0 (λ z. omega (arith, v)), le-ltb limit ((old).reserved + n) (fits), sym (room-is) ∙ c.if-no_row.false)
     (grants.granted-is (tab) c.requires.books_value c.args.signer c.args.c c.requires.reserve_asked _ _ _ (row_is) v (sum_is))

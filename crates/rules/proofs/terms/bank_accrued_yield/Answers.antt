@@ -13,13 +13,13 @@ pub returns-then-earned-accrual : goal.returns-then-earned-accrual
 returns-then-earned-accrual c =
     let a = c.args in
     let answered = sym c.in-Word.is ∙ c.compute_yield.ensures ∙ ap (λ (n : ℕ). yield_answer (compute_yield (to_z w64 a.stake) a.rate n)) c.elapsed_secs.ensures in
-    banked-to a.rate a.time (to_z w64 a.stake) a.since a.accrual c.in-Word.earned (sym c.is_negative.ensures ∙ c.if-is_negative.false) answered (omega arith) c.if-earned-accrual.true
+    banked-to a.rate a.time (to_z w64 a.stake) a.since a.accrual c.in-Word.earned (sym c.is_negative.ensures ∙ c.if-is_negative.false) answered (omega arith) (omega arith)
 
 pub returns-else-earned-accrual : goal.returns-else-earned-accrual
 returns-else-earned-accrual c =
     let a = c.args in
     let answered = sym c.in-Word.is ∙ c.compute_yield.ensures ∙ ap (λ (n : ℕ). yield_answer (compute_yield (to_z w64 a.stake) a.rate n)) c.elapsed_secs.ensures in
-    banked-over a.rate a.time (to_z w64 a.stake) a.since a.accrual c.in-Word.earned (sym c.is_negative.ensures ∙ c.if-is_negative.false) answered (omega arith) c.if-earned-accrual.false
+    banked-over a.rate a.time (to_z w64 a.stake) a.since a.accrual c.in-Word.earned (sym c.is_negative.ensures ∙ c.if-is_negative.false) answered (omega arith) (omega arith)
 
 pub returns-in-TooLarge : goal.returns-in-TooLarge
 returns-in-TooLarge c =
