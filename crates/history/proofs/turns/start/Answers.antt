@@ -1,5 +1,5 @@
 -- `start` meets its contract, by the head's code.
-use Rattle.std.proofs.Common.{◌≡◌, sym, ap, ◌∙◌, subst, true}
+use Rattle.std.proofs.Common.{◌≡◌, sym, ap, ◌∙◌, subst, true, arith}
 use Rattle.books.specs.Words.{tables, good_tables}
 use Rattle.books.specs.Fresh.{Renewed}
 use Rattle.history.proofs.Heads.{opened-good}
