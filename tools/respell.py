@@ -1,7 +1,7 @@
 #!/usr/bin/env python3
-"""Brings the repository's own definitions and lemmas to today's spelling. Run once, at the top, right behind port.py:
+"""Brings the repository's own definitions and lemmas to today's spelling. Run once, at the top, right behind the kit's port.py:
 
-    python3 /opt/rattle/port/port.py && python3 tools/respell.py
+    tools/respell.py
 
 Every definition or lemma of specs/ and proofs/ whose name is in lower camel case gets snake case, wherever it stands: in sources (clauses, comments;
 no string), specs, proofs, must-fail edits and pages. Names of src/, types, modules and what std offers stay. Where two names would fall together

@@ -37,7 +37,7 @@ use Rattle.books.proofs.RowKinds.{find-held, count_held, words-held, put-held, p
 pub key-is : (s : List ℕ) (i : ℕ) → stake_key (stake_row_at s i) ≡ key_at s stake_width i
 key-is s i = refl
 
--- a row read and row_written again is its words
+-- a row read and written again is its words
 five : (l : List ℕ) → stake_width ≤ length l → take stake_width l ≡ get_or l 0 0 ∷ get_or l 1 0 ∷ get_or l 2 0 ∷ get_or l 3 0 ∷ get_or l 4 0 ∷ []
 five [] h = absurd (omega arith)
 five (a ∷ []) h = absurd (omega arith)
@@ -51,7 +51,7 @@ same-words s f i h =
     let at : (k : ℕ) → get_or (drop (i * stake_width) s) k 0 ≡ get_or s (i * stake_width + k) 0 = λ k. get_or-drop (i * stake_width) s k 0 in
     sym (five (drop (i * stake_width) s) (omega (arith, length-drop (i * stake_width) s)) ∙ cc (at 0, at 1, at 2, at 3, at 4, word_back (word s stake_width i stake_word) (f (i * stake_width + stake_word))))
 
--- and row_written in its own place leaves the words as they are
+-- and written in its own place leaves the words as they are
 pub rewritten : (s : List ℕ) → Fit s → (i : ℕ) → i * stake_width + stake_width ≤ length s → row_written s stake_width i (stake_words (stake_row_at s i)) ≡ s
 rewritten s f i h =
     ap (λ (row : List ℕ). take (i * stake_width) s ++ (row ++ drop (i * stake_width + stake_width) s)) (same-words s f i h)
@@ -67,13 +67,13 @@ same_row : (r : StakeRow) (p a s c : ℕ) (z : ℤ) → p ≡ r.pool → a ≡ r
     → record { pool = p; account = a; stake = z; since = s; accrual = c } ≡ r
 same_row r p a s c z e f g h i = rw (e, f, g, h, i)
 
--- a row in order, row_written and read back
+-- a row in order, written and read back
 pub stake-back : (p t : List ℕ) (i : ℕ) (r : StakeRow) → StakeOk r → length p ≡ i * stake_width → (stake_row_at (p ++ (stake_words r ++ t)) i ≡ r) × (word (p ++ (stake_words r ++ t)) stake_width i number_word ≢ 0)
 stake-back p t i r o h =
     let at : (k : ℕ) → get_or (p ++ (stake_words r ++ t)) (i * stake_width + k) 0 ≡ get_or (stake_words r ++ t) k 0 = λ k. ap (λ (m : ℕ). get_or (p ++ (stake_words r ++ t)) (m + k) 0) (sym h) ∙ get_or-append-add p (stake_words r ++ t) k 0 in
     (same_row r _ _ _ _ _ (at 0) (at 1) (ap (to_z w64) (at 2) ∙ number-back r.stake (small-fits r.stake o.size)) (at 3) (at 4), λ e. omega (arith, at 1, o.number.some))
 
--- rows in order, row_written into a room, are a table that reads as these rows
+-- rows in order, written into a room, are a table that reads as these rows
 abbrev pub StakesWritten : ℕ → List StakeRow → Type 0
 StakesWritten room rows = Written stake_row_at stake_words stake_key StakeOk stake_width (λ r. refl) stake-back room rows
 

@@ -1,4 +1,4 @@
-// Stake rows by value: read, found, row_written, put.
+// Stake rows by value: read, found, written, put.
 ghost use Rattle.std.specs.Prelude.{◌≡◌, true, ◌+◌, ◌*◌, ◌≤◌, length};
 ghost use Rattle.rows.specs.inner.Moves.{row_written};
 ghost use Rattle.rules.specs.Books.{stake_gone};

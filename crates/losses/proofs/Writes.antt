@@ -26,7 +26,7 @@ use Rattle.losses.proofs.Walk.{rows, onward-none, sharers-none}
 use Rattle.losses.proofs.Rest.{Resting}
 use Rattle.losses.proofs.Turns.{after_loss, todo, cut_at, after_none, after_is, turn}
 
--- ---- a row row_written below the rows that are still to be read
+-- ---- a row written below the rows that are still to be read
 
 module _ (s row : List ℕ) (at : ℕ) (width : length row ≡ stake_width) (room : at * stake_width + stake_width ≤ length s) where
   head : length (take (at * stake_width) s ++ row) ≡ (at + 1) * stake_width
@@ -63,7 +63,7 @@ module _ {s₀ : List ℕ} {used : ℕ} {l : Loss} (h : Ready s₀ used l) (fit 
   abbrev Mid : List ℕ → ℕ → ℕ → ℤ → Type 0
   Mid s i at rest = Midway s₀ used l s i at rest
 
-  -- rows read and row_written again
+  -- rows read and written again
   words_of : (i n : ℕ) → i * stake_width + n * stake_width ≤ length s₀ → words_of_rows stake_words (rows s₀ i n) ≡ take (n * stake_width) (drop (i * stake_width) s₀)
   words_of i n q = flat_rows stake_row_at stake_words s₀ stake_width (same-words s₀ fit) i n q
 
@@ -95,7 +95,7 @@ module _ {s₀ : List ℕ} {used : ℕ} {l : Loss} (h : Ready s₀ used l) (fit 
         let e : i * stake_width + stake_width ≡ (i + 1) * stake_width = omega arith in
         ap (λ (k : ℕ). drop k s) (sym e) ∙ sym (drop-drop stake_width (i * stake_width) s) ∙ ap (drop stake_width) m.ahead ∙ drop-drop stake_width (i * stake_width) s₀ ∙ ap (λ (k : ℕ). drop k s₀) e
 
-    -- a row more: the row less what it loses is row_written as row `at`, unless it is gone
+    -- a row more: the row less what it loses is written as row `at`, unless it is gone
     pub row_on : {s' : List ℕ} {at' : ℕ} {rest' : ℤ} (line : StakeRow) → line ≡ cut_row (stake_row_at s₀ i) (cut_at s₀ l i rest) → rest' ≡ rest -ℤ cut_at s₀ l i rest → Resting l.amount l.from (i + 1) rest'
         → at' ≡ cond (stake_gone line) at (at + 1) → s' ≡ cond (stake_gone line) s (row_written s stake_width at (stake_words line)) → Mid s' (i + 1) at' rest'
     unfolding words_of_rows

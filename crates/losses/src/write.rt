@@ -1,4 +1,4 @@
-// A loss that was settled, row_written: one pass over the pool's rows, which packs those that are kept.
+// A loss that was settled, written: one pass over the pool's rows, which packs those that are kept.
 ghost use Rattle.std.specs.Prelude.{◌≡◌, cond, ◌+◌, ◌*◌, ◌≤◌, ◌-ℤ◌, length};
 ghost use Rattle.std.specs.Int.{w64};
 ghost use Rattle.std.proofs.Common.{to_z, SFits};

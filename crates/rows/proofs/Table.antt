@@ -28,7 +28,7 @@ rows-after w i n h =
 pub row_ends : (w i n : ℕ) → i < n → i * w + w ≤ n * w
 row_ends w i n h = row_in w h (le_refl (n * w))
 
--- ---- a row row_written
+-- ---- a row written
 
 pub written-length : (s : List ℕ) (w i : ℕ) (row : List ℕ) → i * w + w ≤ length s → length row ≡ w → length (row_written s w i row) ≡ length s
 written-length s w i row l e =

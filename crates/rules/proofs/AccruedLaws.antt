@@ -1,7 +1,7 @@
 -- What is shown as accrued: the cases of `accrued_answer`, and W-204's statement.
 use mathlib.Core.Bool.{Bool, true, false, cond}
 use mathlib.Core.Path.{◌≡◌, refl, sym, ◌∙◌, ap}
-use Prim.Native.Nat.{ℕ, suc, ◌+◌, ◌-◌, ◌*◌, ◌/◌, ◌^◌, ◌≤◌, ◌<◌}
+use Prim.Native.Nat.{ℕ, suc, ◌-◌, ◌*◌, ◌/◌, ◌^◌, ◌≤◌, ◌<◌}
 use native.Mathlib.Nat.{zero-div, zero-mul}
 use native.Mathlib.Omega.{arith}
 use lib.Dec.{ltb, leb}
@@ -11,7 +11,6 @@ use borrow.Author.Tests.{le-leb, lt-leb, leb-true, ltb-true, ltb-false}
 use mir.Syntax.{w64}
 use mir.Val.{SFits, to_z, of_z}
 use mir.ValLaws.{to_z_pos}
-use Rattle.whole.specs.Whole.{up, dn}
 use Rattle.whole.proofs.Linear.{whole, sum, dif, abs, range, lt-true, lt-false}
 use Rattle.whole.proofs.Words.{low, number-back, word_fits, word_of}
 use Rattle.whole.proofs.Shares.{share-is}
@@ -21,7 +20,6 @@ use Rattle.rules.specs.Table.{find, each}
 use Rattle.rules.specs.Queries.{accrued_yield}
 use Rattle.rules.specs.AccruedShown.{AccruedShown}
 use Rattle.rules.specs.inner.Accrued.{accrued_answer}
-use Rattle.rules.specs.declared.terms.Accrued.{Accrued}
 use Rattle.rules.specs.declared.terms.Accrued.TheVariants.{Sum, Beyond}
 use Rattle.rules.specs.declared.terms.Yield.TheVariants.{Word, TooLarge}
 

@@ -1,6 +1,6 @@
 -- `limbs::mul_div` meets its contract: by what `product` and `quotient::divide` ensure, its two answers are the two cases of `mul_div`.
-use Rattle.std.proofs.Common.{arith, rules}
-use Rattle.limbs.proofs.Cases.{exact, too_large}
+use Rattle.std.proofs.Common.{arith}
+use Rattle.limbs.proofs.Cases.{too_large}
 use Rattle.limbs.proofs.mul_div.Goals as goal
 
 pub returns-else-p-d : goal.returns-else-p-d

@@ -1,6 +1,6 @@
 -- `limbs::signed_mul_div` meets its contract: the magnitude's quotient and remainder are the sizes of the share and of what it drops, and take the
 -- sign of x where they fit.
-use Rattle.std.proofs.Common.{ℕ, ℤ, nat_abs, sym, ap, ◌∙◌, arith, w64, to_z}
+use Rattle.std.proofs.Common.{ℕ, ℤ, nat_abs, ap, ◌∙◌, arith, w64, to_z}
 use Rattle.whole.specs.Whole.{signed_z}
 use Rattle.limbs.specs.MulDiv.{mul_div}
 use Rattle.limbs.proofs.Cases.{Exactly, exact_read, signed-made}

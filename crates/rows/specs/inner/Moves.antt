@@ -1,4 +1,4 @@
--- Rows row_written, put in and taken out, as words.
+-- Rows written, put in and taken out, as words.
 use Rattle.std.specs.Prelude.{List, ◌++◌, ℕ, ◌+◌, ◌-◌, ◌*◌, take, drop}
 use Rattle.rows.specs.Rows.{zeros}
 

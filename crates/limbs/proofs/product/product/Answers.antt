@@ -1,8 +1,8 @@
 -- `limbs::product::product` meets its contract: with the masks and the shifts read as remainders and quotients by 2 ^ 32, the body adds the
 -- columns of a product of two digits each (`columns`). Every sum fits because the last one does.
-use Rattle.std.proofs.Common.{◌≡◌, ℕ, ◌+◌, ◌*◌, ◌/◌, ◌%◌, ◌^◌, ◌<◌, ◌≤◌, ◌∙◌, le_of_eq, lt_of_le_of_lt, mod-eq_of_lt, arith, shr_lt, w64, Fits, rules}
+use Rattle.std.proofs.Common.{◌≡◌, ℕ, ◌+◌, ◌*◌, ◌/◌, ◌%◌, ◌^◌, ◌<◌, ◌≤◌, ◌∙◌, le_of_eq, lt_of_le_of_lt, mod-eq_of_lt, arith, w64, Fits}
 use lib.Pow.{split}
-use lib.Bits.{bit_and, and_mask, mask_lt}
+use lib.Bits.{bit_and, and_mask}
 use mir.Facts.{Fits-bits}
 use Rattle.limbs.proofs.Limbs.{shl-keeps, product_lt, upper_lt}
 use Rattle.limbs.proofs.product.product.Goals as goal

@@ -1,8 +1,8 @@
 -- `divide` meets its contract: a high limb of 0 adds nothing; else two digits of the shifted dividend by the shifted divisor, and the shift
 -- undone.
-use Rattle.std.proofs.Common.{◌≡◌, ℕ, ◌+◌, ◌*◌, ◌/◌, ◌%◌, ◌^◌, ap, ◌∙◌, mul-le-mul_right, mod-eq_of_lt, arith, pow_pos, shr_lt, rules}
-use lib.Bits.{bit_and, mask_lt}
-use Rattle.limbs.proofs.Limbs.{halves, shifted_up, unshift}
+use Rattle.std.proofs.Common.{◌≡◌, ℕ, ◌+◌, ◌*◌, ◌/◌, ◌%◌, ◌^◌, ◌∙◌, mod-eq_of_lt, arith, pow_pos}
+use lib.Bits.{bit_and}
+use Rattle.limbs.proofs.Limbs.{halves, unshift}
 use Rattle.limbs.proofs.quotient.divide.Goals as goal
 use Rattle.limbs.proofs.quotient.divide.Lts as lts
 use Rattle.limbs.proofs.quotient.divide.Reads as reads

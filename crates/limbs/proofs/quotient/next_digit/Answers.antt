@@ -1,6 +1,6 @@
 -- `next_digit` meets its contract. The guess times v and what is left make the number divided and what the lower half of v takes; so a digit
 -- that is k below the guess leaves k times v more.
-use Rattle.std.proofs.Common.{◌≡◌, ℕ, ◌+◌, ◌-◌, ◌*◌, ◌/◌, ◌%◌, ◌^◌, ◌<◌, ◌≤◌, ap, mul-le-mul_right, mod-eq_of_lt, lt_of_mul-lt-mul_right, div-mul-le_self, arith, rules}
+use Rattle.std.proofs.Common.{◌≡◌, ℕ, ◌+◌, ◌-◌, ◌*◌, ◌/◌, ◌%◌, ◌^◌, ◌<◌, ◌≤◌, ap, mul-le-mul_right, mod-eq_of_lt, lt_of_mul-lt-mul_right, div-mul-le_self, arith}
 use native.Mathlib.Nat.{lt-div-mul-add}
 use lib.Bits.{bit_and, mask_lt}
 use Rattle.limbs.proofs.Limbs.{halves}

@@ -1,6 +1,6 @@
 -- `limbs::shift::shifted` meets its contract. With S = 2 ^ s and T = 2 ^ (64 - s), so that T * S is the limb's 2 ^ 64, the low limb is
 -- u * T + r: its upper part u moves to the high limb, and r * S stays.
-use Rattle.std.proofs.Common.{◌≡◌, ℕ, ◌+◌, ◌-◌, ◌*◌, ◌/◌, ◌%◌, ◌^◌, ◌<◌, ◌≤◌, sym, ap, ◌∙◌, subst, mod-eq_of_lt, add_comm, mul-one, arith, pow_pos, pow-add, shr_lt, w64, Fits, rules}
+use Rattle.std.proofs.Common.{◌≡◌, ℕ, ◌+◌, ◌-◌, ◌*◌, ◌/◌, ◌%◌, ◌^◌, ◌<◌, ◌≤◌, sym, ap, ◌∙◌, subst, mod-eq_of_lt, add_comm, arith, pow_pos, pow-add, shr_lt, w64, Fits}
 use lib.Pow.{split}
 use Rattle.limbs.proofs.Limbs.{shl-keeps}
 use Rattle.limbs.proofs.quotient.shifted.Goals as goal

@@ -1,11 +1,6 @@
 -- `clear` meets its contract. The loop's invariant: the list is the one at entry with j zeros pasted in, and has its length.
-use mathlib.Core.Path.{◌≡◌, refl}
-use Prim.Native.Nat.{◌-◌, ◌≤◌}
 use native.Mathlib.Omega.{arith}
-use lib.ListN.{length, length-set}
-use lib.Seq.{paste, paste-zero}
-use borrow.Author.Rules.{rules}
-use Rattle.rows.specs.Rows.{zeros}
+use lib.ListN.{length-set}
 use Rattle.rows.proofs.Words.{clear-word}
 use Rattle.rows.proofs.moves.clear.Goals as goal
 

@@ -1,11 +1,8 @@
-use mathlib.Core.Path.{◌≡◌, refl}
+use mathlib.Core.Path.{◌≡◌}
 use Prim.Native.Nat.{◌-◌, ◌≤◌}
-use native.Mathlib.Omega.{arith}
-use lib.ListN.{length, length-set}
-use lib.Seq.{paste, paste-zero}
-use borrow.Author.Rules.{rules}
+use lib.ListN.{length}
+use lib.Seq.{paste}
 use Rattle.rows.specs.Rows.{zeros}
-use Rattle.rows.proofs.Words.{clear-word}
 use Rattle.rows.proofs.moves.clear.Given as goal
 
 abbrev pub invariant-loop-j : goal.invariant-loop-j

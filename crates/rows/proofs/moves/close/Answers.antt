@@ -1,14 +1,11 @@
 -- `close` meets its contract: a copy down and a clear are the list that the contract names (`closed-made`), which is the list itself where no words
 -- are taken (`closed_none`).
-use mathlib.Core.Path.{sym, ap, ◌∙◌}
+use mathlib.Core.Path.{ap, ◌∙◌}
 use mathlib.Core.List.{List}
 use Prim.Native.Nat.{ℕ, ◌+◌, ◌-◌}
-use borrow.Author.Rules.{rules}
-use native.Mathlib.Omega.{arith}
 use lib.Seq.{paste}
 use Rattle.rows.specs.Rows.{zeros}
-use Rattle.rows.specs.inner.Moves.{closed}
-use Rattle.rows.proofs.Table.{closed-made, closed_none}
+use Rattle.rows.proofs.Table.{closed-made}
 use Rattle.rows.proofs.moves.close.Goals as goal
 
 pub returns : goal.returns

@@ -1,10 +1,6 @@
 -- `copy_down` meets its contract. The loop's invariant: the list is the one at entry with the first j words pasted in.
-use mathlib.Core.Path.{◌≡◌, refl}
-use Prim.Native.Nat.{◌-◌, ◌≤◌}
 use native.Mathlib.Omega.{arith}
-use lib.ListN.{length, drop, length-set}
-use lib.Seq.{paste, paste-zero}
-use borrow.Author.Rules.{rules}
+use lib.ListN.{length-set}
 use Rattle.rows.proofs.Words.{down_word}
 use Rattle.rows.proofs.moves.copy_down.Goals as goal
 

@@ -1,10 +1,9 @@
 -- `copy_up` meets its contract. The loop's invariant: the list is the one at entry with its last n - j words pasted in.
-use mathlib.Core.Path.{◌≡◌, refl, ap, ◌∙◌}
-use Prim.Native.Nat.{ℕ, suc, ◌+◌, ◌-◌, ◌≤◌}
+use mathlib.Core.Path.{◌≡◌, ap, ◌∙◌}
+use Prim.Native.Nat.{ℕ, suc, ◌+◌, ◌-◌}
 use native.Mathlib.Omega.{arith}
-use lib.ListN.{length, drop, length-set}
-use lib.Seq.{paste, paste-zero}
-use borrow.Author.Rules.{rules}
+use lib.ListN.{drop, length-set}
+use lib.Seq.{paste}
 use Rattle.rows.proofs.Words.{up_word}
 use Rattle.rows.proofs.moves.copy_up.Goals as goal
 

@@ -1,10 +1,7 @@
-use mathlib.Core.Path.{◌≡◌, refl, ap, ◌∙◌}
-use Prim.Native.Nat.{ℕ, suc, ◌+◌, ◌-◌, ◌≤◌}
-use native.Mathlib.Omega.{arith}
-use lib.ListN.{length, drop, length-set}
-use lib.Seq.{paste, paste-zero}
-use borrow.Author.Rules.{rules}
-use Rattle.rows.proofs.Words.{up_word}
+use mathlib.Core.Path.{◌≡◌}
+use Prim.Native.Nat.{◌+◌, ◌-◌, ◌≤◌}
+use lib.ListN.{length, drop}
+use lib.Seq.{paste}
 use Rattle.rows.proofs.moves.copy_up.Given as goal
 
 abbrev pub invariant-loop-j : goal.invariant-loop-j

@@ -1,9 +1,6 @@
 -- `insert` meets its contract: a copy up and a write are the list that the contract names (`inserted-made`). That the first `at` rows lie within
 -- the used ones is the one fact on products that it needs.
 use mathlib.Core.Path.{◌∙◌}
-use native.Mathlib.Nat.{mul-le-mul_right}
-use native.Mathlib.Omega.{arith}
-use borrow.Author.Rules.{rules}
 use Rattle.rows.proofs.Table.{inserted-made}
 use Rattle.rows.proofs.moves.insert.Goals as goal
 

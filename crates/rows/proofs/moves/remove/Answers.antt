@@ -1,10 +1,7 @@
 -- `remove` meets its contract: a row is its words (`removed-closed`). That row `at` lies within the used rows is the one fact on products that it
 -- needs.
 use mathlib.Core.Path.{◌∙◌}
-use native.Mathlib.Omega.{arith}
-use borrow.Author.Rules.{rules}
-use Prim.Native.Nat.{◌+◌, ◌*◌, ◌≤◌}
-use Rattle.rows.proofs.Table.{row_ends, removed-closed}
+use Rattle.rows.proofs.Table.{removed-closed}
 use Rattle.rows.proofs.moves.remove.Goals as goal
 
 pub returns : goal.returns

@@ -1,12 +1,10 @@
 -- `write_row` meets its contract. The loop's invariant: the list is the one at entry with the first j words of the row pasted in, and has its
 -- length; with all of them it is what the contract names (`put-over`).
-use mathlib.Core.Path.{◌≡◌, refl, ap, ◌∙◌}
-use Prim.Native.Nat.{◌-◌, ◌≤◌, ◌*◌}
+use mathlib.Core.Path.{refl}
+use Prim.Native.Nat.{◌*◌}
 use native.Mathlib.Omega.{arith}
-use lib.ListN.{length, get_or, length-set}
-use lib.Seq.{paste, paste-zero}
-use borrow.Author.Rules.{rules}
-use Rattle.rows.proofs.Words.{next_word, put-over}
+use lib.ListN.{get_or, length-set}
+use Rattle.rows.proofs.Words.{next_word}
 use Rattle.rows.proofs.moves.write_row.Goals as goal
 
 pub loop-j-preserved : goal.loop-j-preserved

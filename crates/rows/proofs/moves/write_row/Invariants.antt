@@ -1,10 +1,7 @@
-use mathlib.Core.Path.{◌≡◌, refl, ap, ◌∙◌}
-use Prim.Native.Nat.{◌-◌, ◌≤◌, ◌*◌}
-use native.Mathlib.Omega.{arith}
-use lib.ListN.{length, get_or, length-set}
-use lib.Seq.{paste, paste-zero}
-use borrow.Author.Rules.{rules}
-use Rattle.rows.proofs.Words.{next_word, put-over}
+use mathlib.Core.Path.{◌≡◌}
+use Prim.Native.Nat.{◌-◌, ◌≤◌}
+use lib.ListN.{length}
+use lib.Seq.{paste}
 use Rattle.rows.proofs.moves.write_row.Given as goal
 
 abbrev pub invariant-loop-j : goal.invariant-loop-j

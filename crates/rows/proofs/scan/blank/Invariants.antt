@@ -1,12 +1,7 @@
-use mathlib.Core.Path.{◌≡◌, refl, sym, ap, ◌∙◌}
-use mathlib.Core.Bool.{Bool, ◌&&◌}
-use Prim.Native.Nat.{◌+◌, ◌-◌, ◌≤◌}
-use native.Mathlib.Omega.{arith}
+use mathlib.Core.Path.{◌≡◌}
+use Prim.Native.Nat.{◌-◌, ◌≤◌}
 use lib.ListN.{length, drop}
-use borrow.Author.Rules.{rules}
-use borrow.Author.Tests.{not-true, not-false}
 use Rattle.rows.specs.Rows.{all_zero}
-use Rattle.rows.proofs.Zeros.{zero-none, zero-eight}
 use Rattle.rows.proofs.scan.blank.Given as goal
 
 abbrev pub invariant-loop-j : goal.invariant-loop-j

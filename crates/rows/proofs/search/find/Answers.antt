@@ -1,6 +1,6 @@
 -- `find` meets its contract. The loop's invariant: the span holds the place of the key, and the reads so far with those still to come in it are all
 -- that the definition names (`Reading`), which a turn keeps (`reading-half`). The measure is the rows in question.
-use mathlib.Core.Path.{ap, ap₂, ◌∙◌, subst⁻¹}
+use mathlib.Core.Path.{ap₂, ◌∙◌, subst⁻¹}
 use Prim.Native.Nat.{ℕ, ◌+◌, ◌*◌, ◌/◌, ◌≤◌}
 use native.Mathlib.Omega.{arith}
 use lib.Dec.{ltb, eqb}
@@ -11,8 +11,8 @@ use Rattle.rows.specs.declared.Place.{Place}
 use Rattle.rows.specs.declared.Lookup.{Lookup}
 use Rattle.rows.specs.declared.search.Span.{Span}
 use Rattle.rows.proofs.Order.{row_in}
-use Rattle.rows.proofs.Halves.{half-rows, holds_at, holds-gap}
-use Rattle.rows.proofs.RowsRead.{Reading, reading-start, reading-half, reading-done}
+use Rattle.rows.proofs.Halves.{holds_at, holds-gap}
+use Rattle.rows.proofs.RowsRead.{Reading, reading-half, reading-done}
 use Rattle.rows.proofs.search.find.Goals as goal
 use Rattle.rows.proofs.search.find.Lts as lts
 use Rattle.rows.proofs.search.find.Reads as reads

@@ -1,16 +1,10 @@
 -- `used_rows` meets its contract. The loop's invariant: the span holds the number of used rows (`Counts`), which a turn keeps (`counts-half`). The
 -- measure is the rows in question.
-use mathlib.Core.Path.{refl, ap, ◌∙◌, subst⁻¹}
-use mathlib.Core.Bool.{not, false}
-use Prim.Native.Nat.{ℕ, ◌+◌, ◌/◌}
-use native.Mathlib.Nat.{div-mul-le_self, div-le_self}
+use Prim.Native.Nat.{◌+◌, ◌/◌}
+use native.Mathlib.Nat.{div-mul-le_self}
 use native.Mathlib.Omega.{arith}
-use lib.Dec.{eqb}
 use lib.ListN.{length}
-use Rattle.rows.specs.inner.Halves.{half_of}
-use Rattle.rows.specs.declared.search.Span.{Span}
 use Rattle.rows.proofs.Order.{row_in}
-use Rattle.rows.proofs.Halves.{Counts, half-rows, counts_start, counts-half, counts-used}
 use Rattle.rows.proofs.search.used_rows.Goals as goal
 
 pub get-requires : goal.get-requires

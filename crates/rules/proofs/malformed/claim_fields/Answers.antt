@@ -5,7 +5,6 @@ use mathlib.Core.List.{[], ◌∷◌}
 use Rattle.rules.specs.Limits.{is_pool, is_number}
 use Rattle.rules.specs.Table.{each}
 use Rattle.rules.proofs.Conditions.{all-joined}
-use borrow.Author.Rules.{rules}
 use Rattle.rules.proofs.malformed.claim_fields.Goals as goal
 
 abbrev both : Bool → Bool → Bool

@@ -4,7 +4,6 @@ use Rattle.rules.specs.Limits.{is_number}
 use Rattle.rules.specs.Table.{each}
 use mathlib.Core.List.{[]}
 use Rattle.rules.proofs.Conditions.{all-joined}
-use borrow.Author.Rules.{rules}
 use Rattle.rules.proofs.malformed.fields_fit.Goals as goal
 
 pub returns-in-Stake : goal.returns-in-Stake

@@ -3,7 +3,6 @@ use mathlib.Core.Path.{ap, ap₂, ◌∙◌}
 use mathlib.Core.Bool.{Bool, not, ◌&&◌}
 use Rattle.rules.specs.Step.{field_tests, malformed}
 use Rattle.rules.proofs.Conditions.{all-last}
-use borrow.Author.Rules.{rules}
 use Rattle.rules.proofs.malformed.is_malformed.Goals as goal
 
 abbrev both : Bool → Bool → Bool

@@ -6,7 +6,6 @@ use lib.Dec.{leb}
 use Rattle.rules.specs.Limits.{last_reply, is_pool, is_number}
 use Rattle.rules.specs.Table.{each}
 use Rattle.rules.proofs.Conditions.{all-joined}
-use borrow.Author.Rules.{rules}
 use Rattle.rules.proofs.malformed.pay_fields.Goals as goal
 
 abbrev both : Bool → Bool → Bool

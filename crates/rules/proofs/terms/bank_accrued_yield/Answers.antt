@@ -1,6 +1,6 @@
 -- `rules::terms::bank_accrued_yield` meets its contract: by the sign of the stake, and then by the yield's answer (`BankedLaws`).
-use Rattle.std.proofs.Common.{◌≡◌, ℕ, ℤ, sym, ap, ◌∙◌, arith, w64, to_z}
-use Rattle.rules.specs.Terms.{elapsed, compute_yield, yield_answer}
+use Rattle.std.proofs.Common.{ℕ, sym, ap, ◌∙◌, arith, w64, to_z}
+use Rattle.rules.specs.Terms.{compute_yield, yield_answer}
 use Rattle.rules.proofs.BankedLaws.{none-banked, banked-to, banked-over, banked-large}
 use Rattle.rules.proofs.terms.bank_accrued_yield.Goals as goal
 
