@@ -13,8 +13,8 @@ ROOT = pathlib.Path(__file__).resolve().parent.parent
 DEFINED = re.compile(r"^\s*(?:(?:abbrev|unfoldable|pub) )*([^\s:(){}.,]+) : ")
 # a lemma whose name a respelled definition takes
 LEMMAS = {'put_count': 'put_count_lem', 'row_written': 'row_written_lem'}
-# names of std in comments and edits, which port.py leaves
-STD = {'natAbs': 'nat_abs', 'toZ': 'to_z', 'ofZ': 'of_z'}
+# names of std in comments and edits, which port.py leaves, and one of a variable
+STD = {'natAbs': 'nat_abs', 'toZ': 'to_z', 'ofZ': 'of_z', 'flatRate': 'flat_rate'}
 
 
 def snake(name):
@@ -37,7 +37,7 @@ def defined():
 
 def renamed():
     # a dash joins names, each of which is respelled by itself, so that only the parts count
-    parts = {part for name in defined() for part in name.split('-') if re.search('^[a-z].*[a-z0-9][A-Z]', part)}
+    parts = {part for name in defined() for part in name.split('-') if re.search('^[a-z][a-z0-9_]*[A-Z]', part)}
     new = {part: snake(part) for part in parts}
     return new | LEMMAS | STD
 

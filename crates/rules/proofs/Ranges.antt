@@ -9,8 +9,8 @@ use Rattle.rules.specs.Terms.{tier_parameters, yield_rate, capped}
 use Rattle.rules.proofs.Tests.{cases}
 use Rattle.rules.proofs.Tiers.{tier-range}
 
-pub rate-most : (flatRate pool : ℕ) → flatRate ≤ greatest_rate → yield_rate flatRate pool ≤ greatest_rate
-rate-most flatRate pool h = cases (eqb pool flat) flatRate (get_or tier_parameters pool (0, 0)).0 (λ (n : ℕ). n ≤ greatest_rate) (λ e. h) (λ e. (tier-range pool).apy)
+pub rate-most : (flat_rate pool : ℕ) → flat_rate ≤ greatest_rate → yield_rate flat_rate pool ≤ greatest_rate
+rate-most flat_rate pool h = cases (eqb pool flat) flat_rate (get_or tier_parameters pool (0, 0)).0 (λ (n : ℕ). n ≤ greatest_rate) (λ e. h) (λ e. (tier-range pool).apy)
 
 pub capped-most : (pool amount : ℕ) → capped pool amount ≤ amount
 capped-most pool amount =

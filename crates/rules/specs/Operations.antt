@@ -18,8 +18,8 @@ meets nil unused x = nil x
 meets nil (used test) x = test x
 
 -- "unknown .. pool"
-abbrev pub aPool : Need ℕ
-aPool = used is_pool
+abbrev pub a_pool : Need ℕ
+a_pool = used is_pool
 
 -- "a rate .. not of pool 3"
 abbrev pub flat_pool : Need ℕ
@@ -30,16 +30,16 @@ abbrev pub a_number : Need ℕ
 a_number = used is_number
 
 -- "unknown .. registry reply"
-abbrev pub aReply : Need ℕ
-aReply = used (λ n. leb n last_reply)
+abbrev pub a_reply : Need ℕ
+a_reply = used (λ n. leb n last_reply)
 
 -- tested by each operation in its own order: code 6 or 10, not 1
 abbrev pub an_amount : Need ℤ
 an_amount = used (λ z. true)
 
 -- "a rate negative"
-abbrev pub aRate : Need ℤ
-aRate = used (λ z. le_z (pos 0) z)
+abbrev pub a_rate : Need ℤ
+a_rate = used (λ z. le_z (pos 0) z)
 
 -- ---- the table
 
@@ -64,12 +64,12 @@ none = line (used (λ n. false)) unused unused unused unused
 abbrev pub operations : List Line
 operations =
     none
-    ∷ line aPool a_number unused unused an_amount  -- 1 stake
-    ∷ line aPool a_number unused unused an_amount  -- 2 withdraw
-    ∷ line aPool a_number a_number aReply an_amount  -- 3 pay
-    ∷ line aPool a_number unused unused an_amount  -- 4 reserve
-    ∷ line aPool a_number a_number unused an_amount  -- 5 claim
-    ∷ line flat_pool unused unused unused aRate  -- 6 rate
+    ∷ line a_pool a_number unused unused an_amount  -- 1 stake
+    ∷ line a_pool a_number unused unused an_amount  -- 2 withdraw
+    ∷ line a_pool a_number a_number a_reply an_amount  -- 3 pay
+    ∷ line a_pool a_number unused unused an_amount  -- 4 reserve
+    ∷ line a_pool a_number a_number unused an_amount  -- 5 claim
+    ∷ line flat_pool unused unused unused a_rate  -- 6 rate
     ∷ line unused unused unused unused unused  -- 7 pause
     ∷ line unused unused unused unused unused  -- 8 unpause
     ∷ line unused a_number unused unused unused  -- 9 payout caller

@@ -17,7 +17,7 @@ tier_parameters = (200, 5_000) ∷ (500, 7_500) ∷ (1_000, 10_000) ∷ []
 
 -- load_yield_rate, load_tier_pool: a tier's yield is fixed, "The flat pool has a settable rate"
 abbrev pub yield_rate : ℕ → ℕ → ℕ
-yield_rate flatRate pool = cond (eqb pool flat) flatRate (get_or tier_parameters pool (0, 0)).0
+yield_rate flat_rate pool = cond (eqb pool flat) flat_rate (get_or tier_parameters pool (0, 0)).0
 
 -- pay_out_tier, reserve_payout_tier: "amount times cap divided by 10,000, rounded down"; the flat pool has "no cap"
 abbrev pub capped : ℕ → ℕ → ℕ
