@@ -21,7 +21,7 @@ use Rattle.history.proofs.Bytes.{calls-parts, calls-front, calls_count, records-
 use Rattle.history.proofs.Stops.{fits-within}
 use Rattle.replay.specs.declared.Position.{Position}
 use Rattle.replay.specs.Buffers.{Grown}
-use Rattle.replay.specs.Printed.{Told, Went, Ran}
+use Rattle.replay.specs.Telling.{Told, Went, Ran}
 
 -- whole records ran, from the tables t₀ on, and `rest` is read and not yet run
 pub record Passed (t₀ : Tables) (known₀ out₀ : Option (List ℕ)) (number : ℕ) (t : Tables) (rest : List ℕ) (known out : Option (List ℕ)) : Type 0 where

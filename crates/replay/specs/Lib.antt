@@ -1,4 +1,5 @@
--- The input's buffer, the program's loop, and what it prints of a log whose bytes are known.
+-- The input's buffer, the program's loop, and what it prints of a log.
 pub mod Buffers
 pub mod Turns
 pub mod Printed
+pub mod Telling

@@ -13,7 +13,8 @@ ghost use Rattle.books.specs.Fresh.{lent};
 ghost use Rattle.log_file.specs.Records.{record_bytes};
 ghost use Rattle.log_file.specs.Lines.{longest};
 ghost use Rattle.replay.specs.Turns.{Turning, Finished};
-ghost use Rattle.replay.specs.Printed.{Telling, Ran, Replayed};
+ghost use Rattle.replay.specs.Printed.{Replayed};
+ghost use Rattle.replay.specs.Telling.{Telling, Ran};
 
 use books::layout::{BOOKS_LENGTH, OFFER_WIDTH, STAKE_WIDTH};
 use input::Input;

@@ -1,5 +1,5 @@
 -- `replay_log`: the head, and the records behind a good one.
-use Rattle.std.proofs.Common.{arith, refl, ◌≤◌, length, take, length-take-le}
+use Rattle.std.proofs.Common.{arith, refl, ◌≡◌, ◌≤◌, ◌<◌, length, take, length-take-le}
 use borrow.Author.Tests.{not-true, not-false}
 use Rattle.books.specs.Words.{Tables, tables}
 use Rattle.log_file.specs.Opening.{head_bytes}
@@ -12,7 +12,9 @@ returns-then-not-first g c =
     let t : Tables = tables c.args.stakes.now c.args.offers.now c.args.books.now in
     let t₁ : Tables = tables s.stakes s.offers s.books in
     let head = take c.in-Has.there c.fill-filled.new.bytes in
-    let within : length head ≤ head_bytes = omega (arith, length-take-le c.in-Has.there c.fill-filled.new.bytes c.in-Has.ensures.filled.most, c.in-Has.ensures.filled.most, c.fill-filled.auto.bytes) in
+    let size : length head ≡ c.in-Has.there = length-take-le c.in-Has.there c.fill-filled.new.bytes c.in-Has.ensures.filled.most in
+    let within : length head ≤ head_bytes = omega (arith, size, c.in-Has.ensures.filled.most, c.fill-filled.auto.bytes) in
+    let short = λ (few : length head < head_bytes). c.in-Has.ensures.came.1 (omega (arith, few, size)) in
     λ _. bad-head
     t
     head
@@ -27,8 +29,8 @@ returns-then-not-first g c =
     (g.W.Write.contents c.args.answers.now)
     (g.W.Write.contents c.print.new.answers)
     c.in-Has.ensures.came.0
+    short
     (c.if-not-print.ensures refl)
-    t₁
     (not-true _ c.if-not-first.true)
 
 pub returns-else-not-first : goal.returns-else-not-first
@@ -37,7 +39,9 @@ returns-else-not-first g c =
     let t : Tables = tables c.args.stakes.now c.args.offers.now c.args.books.now in
     let t₁ : Tables = tables s.stakes s.offers s.books in
     let head = take c.in-Has.there c.fill-filled.new.bytes in
-    let within : length head ≤ head_bytes = omega (arith, length-take-le c.in-Has.there c.fill-filled.new.bytes c.in-Has.ensures.filled.most, c.in-Has.ensures.filled.most, c.fill-filled.auto.bytes) in
+    let size : length head ≡ c.in-Has.there = length-take-le c.in-Has.there c.fill-filled.new.bytes c.in-Has.ensures.filled.most in
+    let within : length head ≤ head_bytes = omega (arith, size, c.in-Has.ensures.filled.most, c.fill-filled.auto.bytes) in
+    let short = λ (few : length head < head_bytes). c.in-Has.ensures.came.1 (omega (arith, few, size)) in
     λ done. good-head
     t
     head
@@ -52,6 +56,7 @@ returns-else-not-first g c =
     (g.W.Write.contents c.args.answers.now)
     (g.W.Write.contents c.print.new.answers)
     c.in-Has.ensures.came.0
+    short
     (c.if-not-print.ensures refl)
     (tables c.run.new.stakes c.run.new.offers c.run.new.books)
     (g.R.Read.remaining c.run.new.log)
