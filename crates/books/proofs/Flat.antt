@@ -1,4 +1,5 @@
 -- Rows written as words: a table is the words of its rows and then zeros, and stays so where a row is put.
+use Rattle.std.proofs.Common.{Result, Ok, Err}
 use mathlib.Core.Path.{◌≡◌, refl, sym, ap, ap₂, ◌∙◌}
 use mathlib.Core.Bool.{Bool, true, false, cond}
 use mathlib.Core.List.{List, [], ◌∷◌, ◌++◌, append_assoc}
@@ -10,8 +11,6 @@ use lib.Seq.{take-add, drop-drop, get_or-drop, ext_get_or}
 use Rattle.rows.specs.inner.Order.{Blank}
 use Rattle.rows.specs.Rows.{zeros, key_at, Sorted}
 use Rattle.rows.specs.Lookup.{place_of}
-use Rattle.rows.specs.declared.Place.{Place}
-use Rattle.rows.specs.declared.Place.TheVariants.{At, Gap}
 use Rattle.rows.proofs.Order.{Placed, placed}
 use Rattle.rows.proofs.Table.{rows_split, rows-after}
 use Rattle.rules.specs.Table.{put}
@@ -69,7 +68,7 @@ module _ {A : Type 0} (row_at : List ℕ → ℕ → A) (enc : A → List ℕ) (
     module _ (r : A) (width : length (enc r) ≡ w) where
       -- a row put in place of row i, or row i taken out
       put-at : (t : Bool) (i : ℕ) → i < n
-          → put_words w s n (enc r) t (At i)
+          → put_words w s n (enc r) t (Ok i)
           ≡ words_of_rows enc (rows_from row_at s 0 i ++ cond t (rows_from row_at s (i + 1) (n - i - 1)) (r ∷ rows_from row_at s (i + 1) (n - i - 1))) ++ zeros (length s - cond t (n - 1) n * w)
       unfolding words_of_rows
       put-at true i h =
@@ -94,7 +93,7 @@ module _ {A : Type 0} (row_at : List ℕ → ℕ → A) (enc : A → List ℕ) (
 
       -- a row put between the rows below i and the others
       put-gap : (t : Bool) (i : ℕ) → i ≤ n → cond t n (n + 1) * w ≤ length s
-          → put_words w s n (enc r) t (Gap i)
+          → put_words w s n (enc r) t (Err i)
           ≡ words_of_rows enc (rows_from row_at s 0 i ++ cond t (rows_from row_at s i (n - i)) (r ∷ rows_from row_at s i (n - i))) ++ zeros (length s - cond t n (n + 1) * w)
       unfolding words_of_rows
       put-gap true i h l =
@@ -125,7 +124,7 @@ module _ {A : Type 0} (row_at : List ℕ → ℕ → A) (enc : A → List ℕ) (
           rw (put_count_lem row_at key s w key-is gone r n o, put-place row_at key s w key-is gone r n o)
           (go (place_of s w n (key r)) (placed s w n (key r) o) (rw (put_count_lem row_at key s w key-is gone r n o) at room))
         where
-          go : (p : Place) → Placed s w n (key r) p → put_count n (gone r) p * w ≤ length s
+          go : (p : Result ℕ ℕ) → Placed s w n (key r) p → put_count n (gone r) p * w ≤ length s
               → put_words w s n (enc r) (gone r) p ≡ words_of_rows enc (put_rows row_at key s w key-is gone r n p) ++ zeros (length s - put_count n (gone r) p * w)
-          go (At i) h l = put-at (gone r) i h.0
-          go (Gap i) b l = put-gap (gone r) i b.hi-le l
+          go (Ok i) h l = put-at (gone r) i h.0
+          go (Err i) b l = put-gap (gone r) i b.hi-le l

@@ -14,9 +14,9 @@ use borrow.Author.Tests.{eqb-true, eq-eqb, le-leb, leb-true}
 use Rattle.whole.specs.Whole.{Within}
 use Rattle.whole.proofs.Linear.{whole}
 use Rattle.whole.proofs.Words.{word_back, number-back}
-use Rattle.rows.specs.Rows.{key_at}
 use Rattle.rules.specs.Limits.{limit, most_stakes, most_offers}
 use Rattle.rules.specs.Books.{Books, Pool, StakeRow, OfferRow, no_figures, books, settings, stake_key, offer_key, balance_of, unpaid_of}
+use Rattle.rules.proofs.Conditions.{refuted}
 use Rattle.rules.proofs.Tests.{nth, held}
 use Rattle.rules.specs.inner.Facts.{Rows, StakeOk, OfferOk, WellFormed}
 use Rattle.rules.proofs.Decided.{formed-read, formed-made}
@@ -24,11 +24,16 @@ use Rattle.rules.proofs.Bounds.{balance-most, unpaid-most}
 use Rattle.books.specs.Layout.{stake_width, offer_width, pools, each_pool, books_words, admin_word, caller_word, paused_word, rate_word}
 use Rattle.books.specs.Tables.{used_of, table_of, tidy}
 use Rattle.books.specs.Words.{Tables, tables, stake_row_at, offer_row_at, unpaid_in, books_of, words_of, good_tables}
-use Rattle.books.specs.inner.Held.{Fit, Table, HeldStakes, HeldOffers}
-use Rattle.books.proofs.Back.{rows-sorted}
+use Rattle.books.specs.inner.Kinds.{Kind, stake_kind, offer_kind}
+use Rattle.books.specs.inner.KindLaws.{KindLaws}
+use Rattle.books.specs.inner.Held.{Fit, Table, Held, HeldStakes, HeldOffers}
+use Rattle.books.proofs.Back.{rows-sorted, Written, written}
 use Rattle.books.proofs.Counts.{used-fits, tidy-read, tidy-made}
-use Rattle.books.proofs.StakeRows as stakes
-use Rattle.books.proofs.OfferRows as offers
+use Rattle.books.proofs.RowKinds.{words-held}
+use Rattle.books.specs.inner.StakeLaws as stakes
+use Rattle.books.specs.inner.StakeLaws.{stake_laws}
+use Rattle.books.specs.inner.OfferLaws as offers
+use Rattle.books.specs.inner.OfferLaws.{offer_laws}
 
 -- ---- what the test says, part by part
 
@@ -56,22 +61,28 @@ unfolding good_tables
 good-made t g =
     held _ (g.stakes-tidy, (g.offers-tidy, (eq-eqb (length t.books) books_words g.sized, (le-leb (get_or t.books paused_word 0) 1 g.flag, (formed-made (books_of t) g.formed, tt)))))
 
+-- books of another length are not good
+pub not-sized : (t : Tables) → (length t.books ≡ books_words → ⊥) → good_tables t ≡ false
+not-sized t n = sym (refuted (good_tables t) (λ g. n (good-read t g).sized))
+
 -- ---- both tables lie in the words, in order
 
 table-tidy : (w : ℕ) (s : List ℕ) (n : ℕ) → Table w s n → tidy w s ≡ true
 table-tidy w s n t = tidy-made w s (record { even = t.even; blank = rw t.used t.blank })
 
-module _ {A : Type 0} (row_at : List ℕ → ℕ → A) (key : A → ℕ) (Ok : A → Type 0) (s : List ℕ) (w : ℕ) (key-is : (i : ℕ) → key (row_at s i) ≡ key_at s w i) where
-  table-held : Rows key Ok 0 (table_of row_at w s) → tidy w s ≡ true → Table w s (used_of w s)
-  table-held o e =
-      let t = tidy-read w s e in
-      record {
+rows-held : (k : Kind) (w : ℕ) → KindLaws k w → (s : List ℕ) → Rows k.key k.Ok 0 (table_of k.row_at w s) → tidy w s ≡ true → Held k w s (used_of w s)
+rows-held k w laws s o e =
+    let t = tidy-read w s e in
+    record {
+      table = record {
         even = t.even;
         used = refl;
         fits = used-fits w s;
-        sorted = λ i j l m. rows-sorted row_at key Ok s w key-is 0 0 (used_of w s) o i j (omega arith) l (omega arith);
+        sorted = λ i j l m. rows-sorted k w laws s 0 0 (used_of w s) o i j (omega arith) l (omega arith);
         blank = t.blank;
-      }
+      };
+      rows = o;
+    }
 
 module _ (t : Tables) (g : good_tables t ≡ true) where
   pub good-formed : WellFormed (books_of t)
@@ -86,10 +97,10 @@ module _ (t : Tables) (g : good_tables t ≡ true) where
   offer-rows = good-formed.offer-rows
 
   pub stakes-held : HeldStakes t.stakes (used_of stake_width t.stakes)
-  stakes-held = record { table = table-held stake_row_at stake_key StakeOk t.stakes stake_width (stakes.key-is t.stakes) stake-rows (good-read t g).stakes-tidy; rows = stake-rows }
+  stakes-held = rows-held stake_kind stake_width stake_laws t.stakes stake-rows (good-read t g).stakes-tidy
 
   pub offers-held : HeldOffers t.offers (used_of offer_width t.offers)
-  offers-held = record { table = table-held offer_row_at offer_key OfferOk t.offers offer_width (offers.key-is t.offers) offer-rows (good-read t g).offers-tidy; rows = offer-rows }
+  offers-held = rows-held offer_kind offer_width offer_laws t.offers offer-rows (good-read t g).offers-tidy
 
   -- |balance| is at most 1,024 limits, and an unpaid sum at most 512
   pub good-balance : (pool : ℕ) → pool < pools → Within (most_stakes * limit) (balance_of (books_of t) pool)
@@ -136,13 +147,13 @@ module _ (t : Tables) (g : good_tables t ≡ true) (fit-s : Fit t.stakes) (fit-b
       let b = t.books in
       let p = good-read t g in
       same_tables
-      (stakes.stakes-back t.stakes (used_of stake_width t.stakes) (stakes-held t g).table fit-s)
-      (offers.offers-back t.offers (used_of offer_width t.offers) (offers-held t g).table)
+      (words-held stake_kind stake_width stake_laws t.stakes _ (stakes-held t g).table (stakes.same-words t.stakes fit-s))
+      (words-held offer_kind offer_width offer_laws t.offers _ (offers-held t g).table (offers.same-words t.offers))
       (cc (all_words b p.sized, balance-back 0, balance-back 1, balance-back 2, balance-back 3, flag-back (get_or b paused_word 0) p.flag))
 
 -- ---- the words of well-formed books
 
-four-of : {A : Type 0} (d : A) (l : List A) → length l ≡ pools → each_pool (λ p. get_or l p d) ≡ l
+pub four-of : {A : Type 0} (d : A) (l : List A) → length l ≡ pools → each_pool (λ p. get_or l p d) ≡ l
 four-of d [] h = absurd (omega arith)
 four-of d (x ∷ []) h = absurd (omega arith)
 four-of d (x ∷ y ∷ []) h = absurd (omega arith)
@@ -165,11 +176,11 @@ same_books : (b : Books) (s : List StakeRow) (o : List OfferRow) (x : List Pool)
 same_books b s o x p m n e1 e2 e3 e4 e5 e6 = rw (e1, e2, e3, e4, e5, e6)
 
 module _ (b : Books) (w : WellFormed b) where
-  ws : stakes.StakesWritten b.rooms.stakes b.stakes
-  ws = stakes.stakes-written b.rooms.stakes b.stakes w.stake-rows w.stake-room.enough
+  ws : Written stake_kind stake_width stake_laws b.rooms.stakes b.stakes
+  ws = written stake_kind stake_width stake_laws b.rooms.stakes b.stakes w.stake-rows w.stake-room.enough
 
-  wo : offers.OffersWritten b.rooms.offers b.offers
-  wo = offers.offers-written b.rooms.offers b.offers w.offer-rows w.offer-room.enough
+  wo : Written offer_kind offer_width offer_laws b.rooms.offers b.offers
+  wo = written offer_kind offer_width offer_laws b.rooms.offers b.offers w.offer-rows w.offer-room.enough
 
   number_of : (pool : ℕ) → pool < pools → to_z w64 (of_z w64 (balance_of b pool)) ≡ balance_of b pool
   number_of pool h =

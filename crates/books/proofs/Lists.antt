@@ -1,4 +1,5 @@
 -- The rows of a table as a list, put and found: what a search's place says of them, for a row type of any kind.
+use Rattle.std.proofs.Common.{Result, Ok, Err}
 use mathlib.Core.Path.{◌≡◌, refl, ap, ◌∙◌}
 use mathlib.Core.Bool.{Bool, true, false, cond}
 use mathlib.Core.List.{List, [], ◌∷◌, ◌++◌}
@@ -9,8 +10,6 @@ use lib.ListN.{length, length-append}
 use borrow.Author.Tests.{lt-ltb, le-ltb, eq-eqb, ne_eqb}
 use Rattle.rows.specs.Rows.{key_at, Sorted}
 use Rattle.rows.specs.Lookup.{place_of}
-use Rattle.rows.specs.declared.Place.{Place}
-use Rattle.rows.specs.declared.Place.TheVariants.{At, Gap}
 use Rattle.rows.proofs.Order.{Placed, placed}
 use Rattle.rules.specs.Table.{find, put, keep}
 use Rattle.books.specs.Tables.{rows_from}
@@ -52,9 +51,9 @@ rows-done row_at s i n h =
     ap (λ (k : ℕ). rows_from row_at s i k) e
 
 -- the row that a place stands for
-abbrev pub row_or : {A : Type 0} → (List ℕ → ℕ → A) → List ℕ → A → Place → A
-row_or row_at s d (At i) = row_at s i
-row_or row_at s d (Gap i) = d
+abbrev pub row_or : {A : Type 0} → (List ℕ → ℕ → A) → List ℕ → A → Result ℕ ℕ → A
+row_or row_at s d (Ok i) = row_at s i
+row_or row_at s d (Err i) = d
 
 module _ {A : Type 0} (row_at : List ℕ → ℕ → A) (key : A → ℕ) (s : List ℕ) (w : ℕ) (key-is : (i : ℕ) → key (row_at s i) ≡ key_at s w i) where
   -- a search passes rows with smaller keys
@@ -83,14 +82,14 @@ module _ {A : Type 0} (row_at : List ℕ → ℕ → A) (key : A → ℕ) (s : L
   pub find-place : (d : A) (k n : ℕ) → Sorted s w n → find key d k (rows_from row_at s 0 n) ≡ row_or row_at s d (place_of s w n k)
   find-place d k n o = go (place_of s w n k) (placed s w n k o)
     where
-      go : (p : Place) → Placed s w n k p → find key d k (rows_from row_at s 0 n) ≡ row_or row_at s d p
-      go (At i) h =
+      go : (p : Result ℕ ℕ) → Placed s w n k p → find key d k (rows_from row_at s 0 n) ≡ row_or row_at s d p
+      go (Ok i) h =
           let e : n ≡ i + suc (n - i - 1) = omega (arith, h.0) in
           ap (λ (x : ℕ). find key d k (rows_from row_at s 0 x)) e
           ∙ find_past d k 0 i (suc (n - i - 1)) (λ j p q. omega (arith, h.1, o j i (omega arith) h.0))
           ∙ ap (λ (x : ℕ). find key d k (rows_from row_at s x (suc (n - i - 1)))) (zero-add i)
           ∙ find-here d k i (n - i - 1) h.1
-      go (Gap i) b =
+      go (Err i) b =
           let e : n ≡ i + (n - i) = omega (arith, b.hi-le) in
           ap (λ (x : ℕ). find key d k (rows_from row_at s 0 x)) e
           ∙ find_past d k 0 i (n - i) (λ j p q. b.below j (omega arith))
@@ -122,22 +121,22 @@ module _ {A : Type 0} (row_at : List ℕ → ℕ → A) (key : A → ℕ) (s : L
         rw (key-is, le-ltb (key_at s w i) (key r) (omega arith), ne_eqb (key_at s w i) (key r) (λ q. omega arith))
 
     -- the rows after a row is put at a place
-    abbrev pub put_rows : ℕ → Place → List A
-    put_rows n (At i) = rows_from row_at s 0 i ++ keep gone r (rows_from row_at s (i + 1) (n - i - 1))
-    put_rows n (Gap i) = rows_from row_at s 0 i ++ keep gone r (rows_from row_at s i (n - i))
+    abbrev pub put_rows : ℕ → Result ℕ ℕ → List A
+    put_rows n (Ok i) = rows_from row_at s 0 i ++ keep gone r (rows_from row_at s (i + 1) (n - i - 1))
+    put_rows n (Err i) = rows_from row_at s 0 i ++ keep gone r (rows_from row_at s i (n - i))
 
     pub put-place : (n : ℕ) → Sorted s w n → put key gone r (rows_from row_at s 0 n) ≡ put_rows n (place_of s w n (key r))
     put-place n o = go (place_of s w n (key r)) (placed s w n (key r) o)
       where
-        go : (p : Place) → Placed s w n (key r) p → put key gone r (rows_from row_at s 0 n) ≡ put_rows n p
-        go (At i) h =
+        go : (p : Result ℕ ℕ) → Placed s w n (key r) p → put key gone r (rows_from row_at s 0 n) ≡ put_rows n p
+        go (Ok i) h =
             let e : n ≡ i + suc (n - i - 1) = omega (arith, h.0) in
             let f : suc i ≡ i + 1 = omega arith in
             ap (λ (x : ℕ). put key gone r (rows_from row_at s 0 x)) e
             ∙ put-past 0 i (suc (n - i - 1)) (λ j p q. omega (arith, h.1, o j i (omega arith) h.0))
             ∙ ap (λ (x : ℕ). rows_from row_at s 0 i ++ put key gone r (rows_from row_at s x (suc (n - i - 1)))) (zero-add i)
             ∙ ap (λ (l : List A). rows_from row_at s 0 i ++ l) (put-here i (n - i - 1) h.1 ∙ ap (λ (x : ℕ). keep gone r (rows_from row_at s x (n - i - 1))) f)
-        go (Gap i) b =
+        go (Err i) b =
             let e : n ≡ i + (n - i) = omega (arith, b.hi-le) in
             ap (λ (x : ℕ). put key gone r (rows_from row_at s 0 x)) e
             ∙ put-past 0 i (n - i) (λ j p q. b.below j (omega arith))
@@ -155,13 +154,13 @@ module _ {A : Type 0} (row_at : List ℕ → ℕ → A) (key : A → ℕ) (s : L
         joined : (i : ℕ) (l : List A) → length (rows_from row_at s 0 i ++ keep gone r l) ≡ i + cond (gone r) (length l) (suc (length l))
         joined i l = length-append (rows_from row_at s 0 i) (keep gone r l) ∙ rw (rows-length, kept)
 
-        go : (p : Place) → Placed s w n (key r) p → length (put_rows n p) ≡ put_count n (gone r) p
-        go (At i) h = joined i (rows_from row_at s (i + 1) (n - i - 1)) ∙ pick (gone r)
+        go : (p : Result ℕ ℕ) → Placed s w n (key r) p → length (put_rows n p) ≡ put_count n (gone r) p
+        go (Ok i) h = joined i (rows_from row_at s (i + 1) (n - i - 1)) ∙ pick (gone r)
           where
             pick : (t : Bool) → i + cond t (length (rows_from row_at s (i + 1) (n - i - 1))) (suc (length (rows_from row_at s (i + 1) (n - i - 1)))) ≡ cond t (n - 1) n
             pick true = omega (arith, rows-length row_at s (i + 1) (n - i - 1), h.0)
             pick false = omega (arith, rows-length row_at s (i + 1) (n - i - 1), h.0)
-        go (Gap i) b = joined i (rows_from row_at s i (n - i)) ∙ pick (gone r)
+        go (Err i) b = joined i (rows_from row_at s i (n - i)) ∙ pick (gone r)
           where
             pick : (t : Bool) → i + cond t (length (rows_from row_at s i (n - i))) (suc (length (rows_from row_at s i (n - i)))) ≡ cond t n (n + 1)
             pick true = omega (arith, rows-length row_at s i (n - i), b.hi-le)

@@ -1,5 +1,5 @@
 -- A fresh set on words, case by case, and that it makes good tables.
-use mathlib.Core.Path.{◌≡◌, refl, ap, ◌∙◌}
+use mathlib.Core.Path.{◌≡◌, refl, sym, ap, ◌∙◌}
 use mathlib.Core.Bool.{Bool, true, false, not, cond}
 use mathlib.Core.List.{List, []}
 use Prim.Native.Nat.{ℕ, ◌-◌, ◌*◌, ◌^◌, ◌<◌}
@@ -40,6 +40,10 @@ lent-parts t e =
       sized = eqb-true (length t.books) books_words (p 2);
       rooms = p 3;
     }
+
+-- where a test of them holds
+pub lent-known : {t : Tables} {r : Bool} → r ≡ lent t → r ≡ true → Lent t
+lent-known {t = t} e f = lent-parts t (sym e ∙ f)
 
 -- a table with no row
 no_rows : {A : Type 0} (enc : A → List ℕ) (w : ℕ) (s : List ℕ) → room_of w s * w ≡ length s → zeros (length s) ≡ table_words enc w (room_of w s) []

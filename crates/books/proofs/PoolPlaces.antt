@@ -1,4 +1,5 @@
 -- A pool's rows lie between the places of account 0 of it and of the next pool, since no account is 0, and in one place only.
+use Rattle.std.proofs.Common.{Ok, Err}
 use mathlib.Core.Path.{◌≡◌, sym}
 use mathlib.Core.Logic.{◌⊎◌, inl, inr, ⊎_elim}
 use mathlib.Core.List.{List}
@@ -6,14 +7,13 @@ use Prim.Native.Nat.{ℕ, ◌+◌, ◌<◌}
 use native.Mathlib.Omega.{arith}
 use Rattle.rows.specs.Rows.{key_of}
 use Rattle.rows.specs.Lookup.{place_of}
-use Rattle.rows.specs.declared.Place.TheVariants.{At, Gap}
 use Rattle.rows.proofs.Order.{found_at, found-gap, lt-or-le, le-cases}
 use Rattle.books.specs.Layout.{stake_width}
 use Rattle.books.specs.inner.Held.{HeldStakes}
 use Rattle.books.specs.inner.Pool.{PoolStart, PoolAt}
 use Rattle.books.proofs.StakeRows.{held-ok}
 
-pub start_is : (s : List ℕ) (n : ℕ) → HeldStakes s n → (pool i : ℕ) → (place_of s stake_width n (key_of pool 0) ≡ At i) ⊎ (place_of s stake_width n (key_of pool 0) ≡ Gap i) → PoolStart s n pool i
+pub start_is : (s : List ℕ) (n : ℕ) → HeldStakes s n → (pool i : ℕ) → (place_of s stake_width n (key_of pool 0) ≡ Ok i) ⊎ (place_of s stake_width n (key_of pool 0) ≡ Err i) → PoolStart s n pool i
 start_is s n h pool i (inl e) =
     let p = found_at s stake_width n (key_of pool 0) i h.table.sorted e in
     let ok = (held-ok s n h i p.0).number in

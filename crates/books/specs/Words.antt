@@ -8,7 +8,7 @@ use Rattle.rows.specs.Rows.{word}
 use Rattle.rules.specs.Table.{all}
 use Rattle.rules.specs.Books.{Books, Pool, Rooms, StakeRow, OfferRow, books, settings, balance_of, unpaid_of}
 use Rattle.rules.specs.Formed.{well_formed}
-use Rattle.rules.specs.declared.Answer.{Answer}
+use Rattle.rules.specs.Answers.{Answer}
 use Rattle.rules.specs.declared.Call.{Call}
 use Rattle.rules.specs.Calls.{account_no}
 use Rattle.rules.specs.Answers.{Plan, refused, does, refusal, done, Malformed, BadTables}

@@ -6,11 +6,12 @@ ghost use Rattle.rules.specs.Terms.{yield_rate, bank_accrued_yield, banked_answe
 ghost use Rattle.books.specs.Layout.{rate_word};
 ghost use Rattle.books.specs.inner.Banking.{Bankable};
 
+use crate::layout::Books;
 use crate::stakes::Stake;
-use rules::Banked;
+use rules::Refusal;
 
-// A row's accrual banked at a time, at its pool's rate, or that it would pass its limit.
-pub fn banked_of(books: &[u64], row: Stake, pool: u64, time: u64) -> Banked
+// A row's accrual banked at a time, at its pool's rate, unless it would pass its limit.
+pub fn banked_of(books: &Books, row: Stake, pool: u64, time: u64) -> Result<u64, Refusal>
     requires { Bankable books.now pool time row.accrual }
     ensures { result ≡ banked_answer (bank_accrued_yield (yield_rate (get_or books.now rate_word 0) pool) time (to_z w64 row.stake) row.since row.accrual) }
 {

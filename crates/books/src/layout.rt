@@ -26,6 +26,8 @@ pub const POOLS: usize = 4;
 
 pub const BOOKS_LENGTH: usize = 12;
 
+pub type Books = [u64; BOOKS_LENGTH];
+
 pub const BALANCES: usize = 0;
 
 pub const UNPAID: usize = 4;

@@ -12,7 +12,7 @@ fn whole_rows(words: usize, width: usize) -> bool
     requires { 0 < width }
     ensures { result ≡ eqb (words / width * width) words }
 {
-    words / width * width == words
+    words % width == 0
 }
 
 // Whether so many rows may be lent.

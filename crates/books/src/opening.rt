@@ -1,39 +1,31 @@
 // A fresh set: the empty tables that a history of calls begins from.
-ghost use Rattle.std.specs.Prelude.{◌≡◌, length};
-ghost use Rattle.rows.specs.Rows.{zeros};
+ghost use Rattle.std.specs.Prelude.{◌≡◌};
+ghost use Rattle.rules.specs.Answers.{told_code};
 ghost use Rattle.books.specs.Words.{tables};
 ghost use Rattle.books.specs.Fresh.{fresh_words, renewed};
 
-use crate::figures::set_admin;
+use crate::layout::ADMIN;
 use crate::lengths::is_lent;
-use rules::Account;
-use rules::codes::{BAD_TABLES, MALFORMED};
+use rules::{Account, Refusal};
 
-// The codes of document 01 that a fresh set is refused with.
-// Sets every word to zero.
-fn wipe(s: &mut [u64])
-    ensures { s.new ≡ zeros (length s.old) }
-{
-    let mut j = 0;
-    while j < s.len() {
-        s[j] = 0;
-        j += 1;
-    }
-}
-
-// Clears every row and figure and sets the admin. Answers 0, or the code that it is refused with, every bit as before.
-pub fn fresh(stakes: &mut [u64], offers: &mut [u64], books: &mut [u64], admin: Account) -> u64
-    ensures { renewed result (tables stakes.new offers.new books.new) ≡ fresh_words (tables stakes.old offers.old books.old) admin }
+// Clears every row and figure and sets the admin. Where it is refused, every bit stays.
+pub fn fresh(
+    stakes: &mut [u64],
+    offers: &mut [u64],
+    books: &mut [u64],
+    admin: Account,
+) -> Result<(), Refusal>
+    ensures { renewed (told_code result) (tables stakes.new offers.new books.new) ≡ fresh_words (tables stakes.old offers.old books.old) admin }
 {
     if admin.0 == 0 {
-        return MALFORMED;
+        return Err(Refusal::Malformed);
     }
     if !is_lent(stakes, offers, books) {
-        return BAD_TABLES;
+        return Err(Refusal::BadTables);
     }
-    wipe(stakes);
-    wipe(offers);
-    wipe(books);
-    set_admin(books, admin);
-    0
+    stakes.fill(0);
+    offers.fill(0);
+    books.fill(0);
+    books[ADMIN] = admin.0;
+    Ok(())
 }

@@ -4,7 +4,7 @@ ghost use Rattle.rows.specs.Rows.{Sorted};
 ghost use Rattle.books.specs.inner.Put.{put_words, put_count, place_for};
 
 use crate::layout::{NUMBER, POOL};
-use rows::Place;
+use rows::Key;
 
 // Puts a row in its place among the first `used` rows, or takes the row with its key out where it is gone. Answers the number of used rows.
 pub fn put_row(s: &mut [u64], width: usize, used: usize, row: &[u64], gone: bool) -> usize
@@ -14,19 +14,21 @@ pub fn put_row(s: &mut [u64], width: usize, used: usize, row: &[u64], gone: bool
     ensures s_after { s.new ≡ put_words width s.old used row.now gone (place_for s.old width used row.now) }
     ensures value { result ≡ put_count used gone (place_for s.old width used row.now) }
 {
-    match rows::place_of(s, width, used, row[POOL], row[NUMBER]) {
-        Place::At(i) => {
-            if gone {
-                rows::remove(s, width, used, i);
-                return used - 1;
-            }
+    let key = Key {
+        pool: row[POOL],
+        number: row[NUMBER],
+    };
+    match (rows::place_of(s, width, used, key), gone) {
+        (Ok(i), true) => {
+            rows::remove(s, width, used, i);
+            used - 1
+        }
+        (Ok(i), false) => {
             rows::write_row(s, width, i, row);
             used
         }
-        Place::Gap(i) => {
-            if gone {
-                return used;
-            }
+        (Err(_), true) => used,
+        (Err(i), false) => {
             rows::insert(s, width, used, i, row);
             used + 1
         }

@@ -6,7 +6,9 @@ ghost use Rattle.books.specs.inner.Passes.{same_sums, settings_test};
 
 use crate::layout::{ADMIN, BALANCES, OFFER_WIDTH, PAUSED, POOLS, RATE, STAKE_WIDTH, UNPAID};
 use crate::lengths::is_lent;
-use crate::pass::{offers_pass, stakes_pass};
+use crate::offers::OfferLine;
+use crate::pass::pass;
+use crate::stakes::Stake;
 use rules::limits::GREATEST_RATE;
 
 // Whether the four words of the books from index `from` on are these sums.
@@ -14,10 +16,7 @@ fn same_sums(books: &[u64], from: usize, sums: [u64; POOLS]) -> bool
     requires { from + pools ≤ length books.now }
     ensures { result ≡ same_sums books.now from sums }
 {
-    (books[from] == sums[0])
-        & (books[from + 1] == sums[1])
-        & (books[from + 2] == sums[2])
-        & (books[from + 3] == sums[3])
+    books[from..from + POOLS] == sums[..]
 }
 
 // Whether the settings are in order.
@@ -29,34 +28,21 @@ fn settings_test(books: &[u64]) -> bool
 }
 
 // Whether lent words are well formed.
-#[tactic(auto, using(crate::proofs::Parts::offers_refused))]
 pub fn tables_well_formed(stakes: &[u64], offers: &[u64], books: &[u64]) -> bool
     ensures { result ≡ good_tables (tables stakes.now offers.now books.now) }
 {
     if !is_lent(stakes, offers, books) {
         return false;
     }
-    let s = stakes_pass(stakes);
-    if !s.ok {
+    let Some(staked) = pass::<STAKE_WIDTH, Stake>(stakes) else {
         return false;
-    }
-    let balances = s.sums;
-    if !same_sums(books, BALANCES, balances) {
+    };
+    let Some(offered) = pass::<OFFER_WIDTH, OfferLine>(offers) else {
         return false;
-    }
-    let o = offers_pass(offers);
-    if !o.ok {
-        return false;
-    }
-    let unpaid = o.sums;
-    if !same_sums(books, UNPAID, unpaid) {
-        return false;
-    }
-    if !settings_test(books) {
-        return false;
-    }
-    if !rows::blank(stakes, s.used * STAKE_WIDTH) {
-        return false;
-    }
-    rows::blank(offers, o.used * OFFER_WIDTH)
+    };
+    same_sums(books, BALANCES, staked.sums)
+        & same_sums(books, UNPAID, offered.sums)
+        & settings_test(books)
+        & rows::blank(stakes, staked.used * STAKE_WIDTH)
+        & rows::blank(offers, offered.used * OFFER_WIDTH)
 }

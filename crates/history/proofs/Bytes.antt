@@ -1,11 +1,12 @@
 -- A log's records in two parts.
 use mathlib.Core.Path.{◌≡◌, refl, sym, ap, ◌∙◌}
-use mathlib.Core.List.{List, ◌++◌}
+use mathlib.Core.List.{List, [], ◌++◌}
 use Prim.Native.Nat.{ℕ, zero, suc, ◌+◌, ◌*◌, ◌/◌, ◌≤◌, ◌<◌}
 use native.Mathlib.Nat.{add_assoc}
 use native.Mathlib.Omega.{arith}
-use lib.ListN.{length, take, drop, length-append, take-append-drop, get_or-append}
-use lib.Seq.{get_or-append-add, length-take-le, take_at}
+use lib.ListN.{get_or, length, take, drop, length-append, length-drop, take-append-drop, get_or-append}
+use lib.Seq.{get_or-append-add, length-take-le, take_at, drop-drop}
+use Rattle.std.specs.Simd.{first_chunks}
 use Rattle.log_file.specs.Bytes.{byte_at, word_at}
 use Rattle.log_file.specs.Records.{record_bytes, record_of}
 use Rattle.history.specs.Replays.{calls_from, calls_of}
@@ -63,6 +64,30 @@ module _ (a b : List ℕ) where
   unfolding calls_from
   calls-second zero at = refl
   calls-second (suc k) at = rw (record-second at, add_assoc (length a) at record_bytes, calls-second k (at + record_bytes))
+
+-- ---- records as chunks
+
+chunk-at : (m : ℕ) (s : List ℕ) (i : ℕ) → i < m → get_or (first_chunks record_bytes m s) i [] ≡ take record_bytes (drop (record_bytes * i) s)
+chunk-at zero s i h = absurd (omega arith)
+chunk-at (suc m) s zero h = refl
+chunk-at (suc m) s (suc i) h =
+    let e : record_bytes + record_bytes * i ≡ record_bytes * suc i = omega arith in
+    chunk-at m (drop record_bytes s) i (omega arith) ∙ ap (take record_bytes) (drop-drop (record_bytes * i) record_bytes s ∙ ap (λ (n : ℕ). drop n s) e)
+
+-- a chunk is the record at its place
+pub chunk-record : (m : ℕ) (s : List ℕ) (i : ℕ) → i < m → record_bytes * m ≤ length s → record_of (get_or (first_chunks record_bytes m s) i []) 0 ≡ record_of s (record_bytes * i)
+chunk-record m s i h within =
+    let front = take (record_bytes * i) s in
+    let rest = drop (record_bytes * i) s in
+    let size : length front ≡ record_bytes * i = length-take-le (record_bytes * i) s (omega arith) in
+    let long : length (take record_bytes rest) ≡ record_bytes = length-take-le record_bytes rest (omega (arith, length-drop (record_bytes * i) s)) in
+    let place : length front + 0 ≡ record_bytes * i = omega (arith, size) in
+    ap (λ (b : List ℕ). record_of b 0) (chunk-at m s i h)
+    ∙ sym (record-first (take record_bytes rest) (drop record_bytes rest) 0 (omega (arith, long)))
+    ∙ ap (λ (b : List ℕ). record_of b 0) (take-append-drop record_bytes rest)
+    ∙ sym (record-second front rest 0)
+    ∙ ap (λ (b : List ℕ). record_of b (length front + 0)) (take-append-drop (record_bytes * i) s)
+    ∙ ap (record_of s) place
 
 calls-join : (j k : ℕ) (bytes : List ℕ) (at : ℕ) → calls_from (j + k) bytes at ≡ calls_from j bytes at ++ calls_from k bytes (at + record_bytes * j)
 unfolding calls_from

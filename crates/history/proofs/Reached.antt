@@ -9,14 +9,14 @@ use lib.ListN.{length, take, length-append}
 use lib.Seq.{take-append_seam, append_snoc}
 use borrow.Author.Tests.{lt-ltb, le-ltb}
 use Rattle.rules.specs.declared.Call.{Call}
-use Rattle.rules.specs.declared.Answer.{Answer}
+use Rattle.rules.specs.Answers.{Answer}
 use Rattle.books.specs.Words.{Tables, Result, good_tables, result_of, step_words}
 use Rattle.books.specs.Runs.{run_words}
 use Rattle.books.proofs.Carried.{step-carried}
 use Rattle.log_file.specs.Records.{record_bytes, record_of}
 use Rattle.log_file.specs.Lines.{answer_text, longest}
-use Rattle.log_file.specs.Written.{Wrote}
-use Rattle.log_file.proofs.Writing.{wrote_none, wrote-more}
+use Rattle.log_file.specs.Written.{written}
+use Rattle.log_file.proofs.Writing.{written-more}
 use Rattle.history.specs.Replays.{calls_from, calls_of, text_of, texts_of, fitting, part_run, replayed}
 use Rattle.history.specs.Bounds.{Bounded}
 use Rattle.history.proofs.Parts.{words-parts, texts-parts}
@@ -43,7 +43,8 @@ module _ (t₀ : Tables) (records text₀ : List ℕ) (number₀ : ℕ) where
     pub split : calls_of records ≡ ran ++ calls_from left records taken
     pub fits : fitting (length text₀) t₀ number₀ (calls_of records) ≡ length ran + fitting (length text₀ - at) t number (calls_from left records taken)
     pub words : t ≡ run_words t₀ ran
-    pub wrote : Wrote text₀ 0 (texts_of t₀ number₀ ran) text at
+    pub wrote : text ≡ written text₀ 0 (texts_of t₀ number₀ ran)
+    pub end : at ≡ length (texts_of t₀ number₀ ran)
     pub numbered : number ≡ number₀ + length ran
     pub placed : taken ≡ record_bytes * length ran
     pub least : taken + record_bytes * left ≤ length records
@@ -61,7 +62,8 @@ module _ (t₀ : Tables) (records text₀ : List ℕ) (number₀ : ℕ) where
         split = refl;
         fits = rw none (omega arith);
         words = refl;
-        wrote = wrote_none text₀ 0;
+        wrote = refl;
+        end = refl;
         numbered = omega arith;
         placed = refl;
         least = omega arith;
@@ -79,8 +81,7 @@ module _ (t₀ : Tables) (records text₀ : List ℕ) (number₀ : ℕ) where
         let n : fitting (length text₀) t₀ number₀ (calls_of records) ≡ length h.ran = rw none at h.fits ∙ (omega arith) in
         let front : take (length h.ran) (calls_of records) ≡ h.ran =
         ap (take (length h.ran)) h.split ∙ take-append_seam h.ran (calls_from h.left records taken) in
-        let end : at ≡ length (texts_of t₀ number₀ h.ran) = omega (arith, h.wrote.place) in
-        rw (n, front, h.words, h.numbered, h.placed, h.wrote.bytes, end)
+        rw (n, front, h.words, h.numbered, h.placed, h.wrote, h.end)
 
     -- no whole record is left
     stopped-short : length records - taken < record_bytes → part_run (record { number = number; taken = taken; printed = at }) t text ≡ replayed t₀ records text₀ number₀
@@ -107,7 +108,7 @@ module _ (t₀ : Tables) (records text₀ : List ℕ) (number₀ : ℕ) where
       where
         some : record_bytes ≤ length records → longest ≤ length text₀ → (ran : List Call) → h.ran ≡ ran → (length records - taken < record_bytes) ⊎ (length text₀ - at < longest) → number₀ < number
         some whole room [] e (inl short) = omega (arith, h.placed, ap length e)
-        some whole room [] e (inr full) = omega (arith, rw e at h.wrote.place)
+        some whole room [] e (inr full) = omega (arith, rw e at h.end)
         some whole room (c ∷ ran) e why = omega (arith, h.numbered, ap length e)
 
     -- so the contract holds there
@@ -118,10 +119,10 @@ module _ (t₀ : Tables) (records text₀ : List ℕ) (number₀ : ℕ) where
 
     -- a record runs
     pub reached-next : taken + record_bytes ≤ length records → at + longest ≤ length text₀
-        → (a : Answer) (t₁ : Tables) (text₁ : List ℕ) (next : ℕ) → result_of a t₁ ≡ step_words t (record_of records taken) → Wrote text at (answer_text (number + 1) a) text₁ next → next ≤ at + longest
+        → (a : Answer) (t₁ : Tables) (text₁ : List ℕ) (next : ℕ) → result_of a t₁ ≡ step_words t (record_of records taken) → text₁ ≡ written text at (answer_text (number + 1) a) → next ≡ at + length (answer_text (number + 1) a) → next ≤ at + longest
         → Reached t₁ text₁ (number + 1) (taken + record_bytes) next
     unfolding calls_from run_words texts_of
-    reached-next whole room a t₁ text₁ next e w short =
+    reached-next whole room a t₁ text₁ next e w place short =
         let c = record_of records taken in
         let k : ℕ = h.left - 1 in
         let rest = calls_from k records (taken + record_bytes) in
@@ -129,9 +130,11 @@ module _ (t₀ : Tables) (records text₀ : List ℕ) (number₀ : ℕ) where
         let front : calls_from h.left records taken ≡ c ∷ rest = ap (λ (n : ℕ). calls_from n records taken) more in
         let answer : a ≡ (step_words t c).answer = ap (λ (r : Result). r.answer) e in
         let after : t₁ ≡ (step_words t c).tables = ap (λ (r : Result). r.tables) e in
-        let line : Wrote text at (text_of t number c) text₁ next = rw answer at w in
+        let line : text₁ ≡ written text at (text_of t number c) = rw answer at w in
+        let behind : at ≡ 0 + length (texts_of t₀ number₀ h.ran) = omega (arith, h.end) in
+        let line-end : next ≡ at + length (text_of t number c) = rw answer at place in
         let count : length (h.ran ++ (c ∷ [])) ≡ length h.ran + 1 = simp length-append in
-        let smaller : length text₀ - at - length (text_of t number c) ≡ length text₀ - next = omega (arith, line.place) in
+        let smaller : length text₀ - at - length (text_of t number c) ≡ length text₀ - next = omega (arith, line-end) in
         let text-end : texts_of t₀ number₀ (h.ran ++ (c ∷ [])) ≡ texts_of t₀ number₀ h.ran ++ text_of t number c =
         texts-parts t₀ number₀ h.ran (c ∷ []) ∙ rw (← h.words, ← h.numbered, append-nil) in
         record {
@@ -140,7 +143,8 @@ module _ (t₀ : Tables) (records text₀ : List ℕ) (number₀ : ℕ) where
           split = h.split ∙ ap (λ (calls : List Call). h.ran ++ calls) front ∙ sym (append_snoc h.ran c rest);
           fits = h.fits ∙ rw (front, one-fits (length text₀ - at) t number c rest (omega arith), smaller, after, count) (omega arith);
           words = after ∙ rw (words-parts t₀ h.ran (c ∷ []), ← h.words);
-          wrote = rw text-end (wrote-more (omega arith) h.wrote line);
+          wrote = line ∙ rw (h.wrote, behind, text-end) (written-more text₀ (texts_of t₀ number₀ h.ran) (text_of t number c) 0 (omega arith));
+          end = rw text-end (omega (arith, line-end, h.end, length-append (texts_of t₀ number₀ h.ran) (text_of t number c)));
           numbered = omega (arith, count, h.numbered);
           placed = omega (arith, count, h.placed);
           least = omega (arith, h.least);

@@ -1,5 +1,5 @@
 -- What a caller goes on with after a part of a log; all of it follows from what the part comes to.
-use Rattle.std.specs.Prelude.{◌≡◌, true, List, ℕ, ◌+◌, ◌*◌, ◌≤◌, ◌<◌, length}
+use Rattle.std.specs.Prelude.{◌≡◌, true, IfSome, List, ℕ, ◌+◌, ◌*◌, ◌≤◌, ◌<◌, length}
 use Rattle.books.specs.Words.{Tables, good_tables}
 use Rattle.log_file.specs.Records.{record_bytes}
 use Rattle.log_file.specs.Lines.{longest}
@@ -17,7 +17,6 @@ pub record Bounded (t : Tables) (records room : List ℕ) (number : ℕ) (p : Pr
 -- after a turn
 pub record Onward (t : Tables) (there : ℕ) (room : List ℕ) (number : ℕ) (r : Turn) : Type 0 where
   pub good : good_tables t ≡ true
-  pub left : r.left ≤ there
   pub printed : r.printed ≤ length room
-  -- a turn that is not the last has run a record
-  pub some : r.going ≡ true → number < r.number
+  -- a turn that is not the last has run a record, and leaves no more bytes than were there
+  pub next : IfSome r.next (λ p. (p.there ≤ there) × (number < p.number))

@@ -1,9 +1,9 @@
 -- Laws of halves and limbs, of numbers of two limbs and of shifts.
-use Rattle.std.proofs.Common.{◌≡◌, ℕ, ◌+◌, ◌*◌, ◌/◌, ◌%◌, ◌^◌, ◌<◌, sym, ap, ◌∙◌, lt_of_le_of_lt, add-zero, le_of_lt, mod-lt, div-lt_iff_lt-mul, lt_of_mul-lt-mul_right, mul-le-mul_left, mul-lt-mul_of_pos_right, div-add-mod', mul-div_cancel, arith, shl_lt}
+use Rattle.std.proofs.Common.{◌≡◌, ℕ, ◌+◌, ◌*◌, ◌/◌, ◌%◌, ◌^◌, ◌<◌, sym, ap, ◌∙◌, lt_of_le_of_lt, add-zero, le_of_lt, mod-lt, div-lt_iff_lt-mul, lt_of_mul-lt-mul_right, mul-le-mul_left, div-add-mod', mul-div_cancel, arith, shl_lt}
 use native.Mathlib.Nat.{mul-mod_left}
 use lib.Bits.{bit_and, and_mask}
 use lib.Pow.{shl-shr, mod-pow-add, split}
-use lib.Arith.{digits_lt, digits_div, digits_mod}
+use lib.Arith.{digits_div, digits_mod}
 
 -- the halves of a limb make it
 pub halves : (v : ℕ) → v / 2 ^ 32 * 2 ^ 32 + bit_and v 0xffff_ffff ≡ v
@@ -33,8 +33,3 @@ unshift S d q rest N hS e hr =
     let ht : t < d = (div-lt_iff_lt-mul hS).1 hr in
     let whole : q * d + t ≡ N = upper_is S (q * d + t) N (rest % S) (mod-lt rest hS) (omega (arith, e, div-add-mod' rest S)) in
     (sym (digits_div q ht) ∙ ap (λ (x : ℕ). x / d) whole, sym (digits_mod q ht) ∙ ap (λ (x : ℕ). x % d) whole)
-
--- what the division starts from: the dividend h, l shifted up by s has the limbs m and k, and m is below the divisor shifted up
-pub shifted_up : (B S h l d m k : ℕ) → 0 < S → h < d → l < B → m * B + k ≡ (h * B + l) * S → m < d * S
-shifted_up B S h l d m k hS hh hl e =
-    lt_of_mul-lt-mul_right B (omega (arith, e, mul-lt-mul_of_pos_right (digits_lt {q = h} {m = d} {r = l} {c = B} hh hl) hS))

@@ -1,4 +1,5 @@
-// The whole product of two words, as two limbs.
+// The whole product of two words, as two limbs. A `u128` would do it by one `*`. Document 01 names this form: the low half carries by wrapping
+// addition (docs/DECISIONS.md).
 ghost use Rattle.std.specs.Prelude.{◌≡◌, ◌+◌, ◌*◌, ◌^◌, ◌<◌, ◌≤◌};
 
 // A number of 128 bits: high * 2^64 + low.
@@ -8,22 +9,14 @@ pub struct Wide {
     pub low: u64,
 }
 
-// A sum of two limbs: carry * 2^64 + low.
-#[derive(Clone, Copy)]
-pub struct Sum {
-    pub carry: u64,
-    pub low: u64,
-}
-
-// a + b as a limb and its carry. The limb is the wrapped sum; it wrapped exactly where it is smaller than an addend.
-pub fn add_carry(a: u64, b: u64) -> Sum
-    ensures { (result.carry * 2 ^ 64 + result.low ≡ a + b) × (result.carry ≤ 1) }
+// a + b, whose high limb is the carry. The low limb is the wrapped sum; it wrapped exactly where it is smaller than an addend.
+pub fn add_carry(a: u64, b: u64) -> Wide
+    ensures { (result.high * 2 ^ 64 + result.low ≡ a + b) × (result.high ≤ 1) }
 {
-    let low = std::num::wrapping_add_u64(a, b);
-    if low < a {
-        Sum { carry: 1, low }
-    } else {
-        Sum { carry: 0, low }
+    let low = a.wrapping_add(b);
+    Wide {
+        high: u64::from(low < a),
+        low,
     }
 }
 
@@ -39,7 +32,7 @@ pub fn product(a: u64, b: u64) -> Wide
     let middle = add_carry(a0 * b1, a1 * b0);
     let bottom = add_carry(a0 * b0, middle.low << 32);
     Wide {
-        high: a1 * b1 + (middle.low >> 32) + (middle.carry << 32) + bottom.carry,
+        high: a1 * b1 + (middle.low >> 32) + (middle.high << 32) + bottom.high,
         low: bottom.low,
     }
 }

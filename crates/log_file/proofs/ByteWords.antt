@@ -55,7 +55,3 @@ word-place s at k =
   where
     next : (j : ℕ) → byte_at s (at + k + j) ≡ byte_at (drop at s) (k + j)
     next j = let e : at + k + j ≡ at + (k + j) = omega arith in ap (byte_at s) e ∙ byte-place s at (k + j)
-
--- eight bytes, each by its equation
-pub eight : {a b c d e f g h a₁ b₁ c₁ d₁ e₁ f₁ g₁ h₁ : ℕ} → a ≡ a₁ → b ≡ b₁ → c ≡ c₁ → d ≡ d₁ → e ≡ e₁ → f ≡ f₁ → g ≡ g₁ → h ≡ h₁ → (a ∷ b ∷ c ∷ d ∷ e ∷ f ∷ g ∷ h ∷ []) ≡ (a₁ ∷ b₁ ∷ c₁ ∷ d₁ ∷ e₁ ∷ f₁ ∷ g₁ ∷ h₁ ∷ [])
-eight a b c d e f g h = λ i. a i ∷ b i ∷ c i ∷ d i ∷ e i ∷ f i ∷ g i ∷ h i ∷ []

@@ -3,18 +3,17 @@
 -- other. `ByteWords`: numbers and their bytes. `SideBySide`, `EntryBack`: an operation and its entry of the log. `RecordBack`, `HeadBack`: records and
 -- heads and their bytes. `Writes`: a write by what its tests told. `RoundTrip`: what is written reads back, and what is read writes back.
 -- `Told`: what a write of a head or a record comes to, by each of its tests.
-pub mod FirstWord
 pub mod Zeros
 pub mod Numbered
 pub mod SideBySide
 pub mod Judged
-pub mod Digits
 pub mod Transfers
 pub mod Writing
 pub mod ByteWords
 pub mod EntryBack
 pub mod RecordBack
 pub mod HeadBack
+pub mod HeadRead
 pub mod Writes
 pub mod RoundTrip
 pub mod Told

@@ -13,10 +13,6 @@ pub numbered : (e : Entry) (k : ℕ) → e.number ≡ k → operation_of e ≡ c
 unfolding operation_of
 numbered e k p = rw p
 
--- a number that is none of 1 .. k, nor the next
-pub past : (n k : ℕ) → (0 < n → k < n) → (n ≡ suc k → ⊥) → 0 < n → suc k < n
-past n k h d p = let q = h p in omega arith
-
 unknown : (t : Bool) → cond t Unknown Unknown ≡ Unknown
 unknown true = refl
 unknown false = refl

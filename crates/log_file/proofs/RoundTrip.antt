@@ -18,15 +18,14 @@ use Rattle.rules.specs.declared.Operation.{Operation}
 use Rattle.rules.specs.declared.Operation.TheVariants.{Unknown}
 use Rattle.rules.specs.declared.Call.{Call}
 use Rattle.rules.proofs.Tests.{each_first, number_read}
-use Rattle.log_file.specs.declared.header.Head.{Head}
-use Rattle.log_file.specs.declared.header.Head.TheVariants.{Admin}
+use Rattle.std.specs.Prelude.{Some, Ok}
 use Rattle.log_file.specs.declared.records.Record.{Record}
 use Rattle.log_file.specs.Bytes.{AreBytes}
 use Rattle.log_file.specs.Opening.{head_bytes, head_of}
 use Rattle.log_file.specs.Records.{record_bytes, record_at, operation_of, call_of, record_of}
 use Rattle.log_file.specs.Malformed.{record_tests}
 use Rattle.log_file.specs.Written.{written}
-use Rattle.log_file.specs.Writer.{head_text, field_text, record_text, told, after, room_left, write_head, write_record, WriteOutcome}
+use Rattle.log_file.specs.Writer.{head_text, field_text, record_text, after, room_left, write_head, write_record, WriteOutcome}
 use Rattle.log_file.specs.RoundTrips.{Fitting, record_of_fields, RoundTrips}
 use Rattle.log_file.proofs.ByteWords.{bytes-behind}
 use Rattle.log_file.proofs.EntryBack.{operation-back, entry-back, roomy}
@@ -73,10 +72,10 @@ call-read s at c h e =
     called r = record { now = r.now; signer = record { 0 = r.signer }; operation = cond (eqb r.zeros 0) (operation_of r.fields) Unknown }
 
 -- what a done write leaves
-pub stands : (s : List ℕ) (at : ℕ) (c : Call) → malformed c ≡ false → record_bytes ≤ room_left s at → write_record s at c ≡ after (told 0 record_bytes) (written s at (record_text c))
+pub stands : (s : List ℕ) (at : ℕ) (c : Call) → malformed c ≡ false → record_bytes ≤ room_left s at → write_record s at c ≡ after (Ok record_bytes) (written s at (record_text c))
 stands s at c h room =
     let e = record-length c in
-    sym (writes-done s at (record_text c) h (omega (arith, e))) ∙ ap (λ (n : ℕ). after (told 0 n) (written s at (record_text c))) e
+    sym (writes-done s at (record_text c) h (omega (arith, e))) ∙ ap (λ (n : ℕ). after (Ok n) (written s at (record_text c))) e
 
 written_read : (s : List ℕ) (at : ℕ) (c : Call) → Fitting (entry_of c.operation) → malformed c ≡ false → record_bytes ≤ room_left s at → record_at (written s at (record_text c)) at ≡ record_of_fields c.now c.signer (entry_of c.operation)
 written_read s at c fit h room = text-read (written s at (record_text c)) _ at c fit h (written_from s at (record_text c) (omega arith))
@@ -100,10 +99,6 @@ record-again s i are long h =
     ∙ ap (λ (q : Record). field_text q.now q.signer q.fields) (record-place s i)
     ∙ fields-written t (bytes-behind s are i) (omega (arith, length-drop i s)) zeros
 
--- what a reader answers, with what follows from it
-pub record-met : (s : List ℕ) (i : ℕ) → AreBytes s → i + record_bytes ≤ length s → (r : Call) → r ≡ record_of s i → (r ≡ record_of s i) × (malformed r ≡ false → record_text r ≡ take record_bytes (drop i s))
-record-met s i are long r e = (e, λ h. ap record_text e ∙ record-again s i are long (ap malformed (sym e) ∙ h))
-
 -- ---- fields that are given one by one
 
 entry-sound : (now : ℕ) (signer : Account) (e : Entry) → malformed (call_of now signer e) ≡ false → entry_of (operation_of e) ≡ e
@@ -125,19 +120,16 @@ pub head-length : (admin : Account) → length (head_text admin) ≡ head_bytes
 unfolding head_text
 head-length admin = refl
 
-pub head-stands : (s : List ℕ) (at : ℕ) (admin : Account) → not (is_number admin.0) ≡ false → head_bytes ≤ room_left s at → write_head s at admin ≡ after (told 0 head_bytes) (written s at (head_text admin))
+pub head-stands : (s : List ℕ) (at : ℕ) (admin : Account) → not (is_number admin.0) ≡ false → head_bytes ≤ room_left s at → write_head s at admin ≡ after (Ok head_bytes) (written s at (head_text admin))
 head-stands s at admin h room =
     let e = head-length admin in
-    sym (writes-done s at (head_text admin) h (omega (arith, e))) ∙ ap (λ (n : ℕ). after (told 0 n) (written s at (head_text admin))) e
+    sym (writes-done s at (head_text admin) h (omega (arith, e))) ∙ ap (λ (n : ℕ). after (Ok n) (written s at (head_text admin))) e
 
-pub admin-stands : (s : List ℕ) (at : ℕ) (admin : Account) → not (is_number admin.0) ≡ false → head_bytes ≤ room_left s at → head_of (take head_bytes (drop at (written s at (head_text admin)))) ≡ Admin admin
+pub admin-stands : (s : List ℕ) (at : ℕ) (admin : Account) → not (is_number admin.0) ≡ false → head_bytes ≤ room_left s at → head_of (take head_bytes (drop at (written s at (head_text admin)))) ≡ Some admin
 admin-stands s at admin h room =
     ap (λ (l : List ℕ). head_of (take head_bytes l)) (written_from s at (head_text admin) (omega arith))
     ∙ ap head_of (take_at (head_text admin) _ head_bytes (head-length admin))
     ∙ head_read admin (not-false _ h)
-
-pub head-met : (s : List ℕ) → AreBytes s → (r : Head) → r ≡ head_of s → (r ≡ head_of s) × ((admin : Account) → r ≡ Admin admin → head_text admin ≡ s)
-head-met s are r e = (e, λ admin h. head-written s admin are (sym e ∙ h))
 
 -- ---- the statement
 
@@ -148,7 +140,7 @@ round-trips =
       admin-back = λ s at a h room. (ap (λ (w : WriteOutcome). w.answer) (head-stands s at a h room), ap (λ (w : WriteOutcome). head_of (take head_bytes (drop at w.buffer))) (head-stands s at a h room) ∙ admin-stands s at a h room);
       record-back = record-again;
       head-back = head-written;
-      in_place = λ s i are long h. stands s i (record_of s i) h (omega arith) ∙ ap (after (told 0 record_bytes)) (ap (written s i) (record-again s i are long h) ∙ written_same s i record_bytes long);
+      in_place = λ s i are long h. stands s i (record_of s i) h (omega arith) ∙ ap (after (Ok record_bytes)) (ap (written s i) (record-again s i are long h) ∙ written_same s i record_bytes long);
       fields-judged = fields-tested;
       fields_back = fields-again;
     }

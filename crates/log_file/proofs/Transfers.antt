@@ -1,25 +1,16 @@
--- A transfer's text by its kind.
-use mathlib.Core.Path.{◌≡◌, refl}
-use mathlib.Core.List.{List, [], ◌∷◌, ◌++◌}
-use Prim.Native.Nat.{ℕ, zero, suc}
-use lib.ListN.{get_or}
-use Rattle.rules.specs.declared.Transfer.{Transfer}
+-- A transfer's text by its direction.
+use Rattle.std.proofs.Common.{◌≡◌, refl, List, [], ◌∷◌, ◌++◌, ℕ}
+use Rattle.rules.specs.declared.Account.{Account}
+use Rattle.rules.specs.declared.answers.Direction.{Direction}
+use Rattle.rules.specs.declared.answers.Direction.TheVariants.{In, Out}
+use Rattle.rules.specs.Answers.{placed}
 use Rattle.log_file.specs.Lines.{pair_text, transfer_text}
 
-pub text_in : (t : Transfer) → t.kind ≡ 1 → transfer_text t ≡ (105 ∷ 110 ∷ 32 ∷ []) ++ pair_text t.account.0 t.amount
-unfolding transfer_text
-text_in t e = rw e
+abbrev pub word_of : Direction → List ℕ
+word_of In = 105 ∷ 110 ∷ 32 ∷ []
+word_of Out = 111 ∷ 117 ∷ 116 ∷ 32 ∷ []
 
-pub text_out : (t : Transfer) → t.kind ≡ 2 → transfer_text t ≡ (111 ∷ 117 ∷ 116 ∷ 32 ∷ []) ++ pair_text t.account.0 t.amount
+pub placed-text : (d : Direction) (a : Account) (n : ℕ) → transfer_text (placed d a n) ≡ word_of d ++ pair_text a.0 n
 unfolding transfer_text
-text_out t e = rw e
-
-pub text-none : (t : Transfer) → (t.kind ≡ 1 → ⊥) → (t.kind ≡ 2 → ⊥) → transfer_text t ≡ []
-unfolding transfer_text
-text-none t p q = none t.kind _ _ p q
-  where
-    none : (n : ℕ) (x y : List ℕ) → (n ≡ 1 → ⊥) → (n ≡ 2 → ⊥) → get_or ([] ∷ x ∷ y ∷ []) n [] ≡ []
-    none zero x y p q = refl
-    none (suc zero) x y p q = absurd (p refl)
-    none (suc (suc zero)) x y p q = absurd (q refl)
-    none (suc (suc (suc n))) x y p q = refl
+placed-text In a n = refl
+placed-text Out a n = refl

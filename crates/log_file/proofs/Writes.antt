@@ -1,45 +1,30 @@
 -- A write by what its tests told, and what stands in the buffer after it.
 use mathlib.Core.Path.{◌≡◌, sym, ap, ◌∙◌}
-use mathlib.Core.Bool.{Bool, true, false, cond}
+use mathlib.Core.Bool.{Bool, true, false}
 use mathlib.Core.List.{List, ◌++◌, append_assoc}
 use Prim.Native.Nat.{ℕ, ◌+◌, ◌-◌, ◌≤◌, ◌<◌}
 use native.Mathlib.Omega.{arith}
 use borrow.Author.Tests.{lt-ltb, le-ltb}
-use lib.Dec.{ltb}
 use lib.ListN.{length, take, drop, length-drop, take-append-drop}
 use lib.Seq.{length-take-le, drop_at, take-add}
-use Rattle.rules.specs.Answers.{Malformed, TableFull}
-use Rattle.log_file.specs.declared.writer.WriteAnswer.{WriteAnswer}
+use Rattle.rules.specs.declared.refusal.Refusal.TheVariants.{Malformed, TableFull}
+use Rattle.std.specs.Prelude.{Ok, Err}
 use Rattle.log_file.specs.Written.{written}
-use Rattle.log_file.specs.Writer.{told, after, room_left, writes}
+use Rattle.log_file.specs.Writer.{after, room_left, writes}
 
 module _ {bad : Bool} (s : List ℕ) (at : ℕ) (text : List ℕ) where
-  pub writes-bad : bad ≡ true → after (told Malformed 0) s ≡ writes bad s at text
+  pub writes-bad : bad ≡ true → after (Err Malformed) s ≡ writes bad s at text
   unfolding writes
   writes-bad e = rw e
 
   module _ (good : bad ≡ false) where
-    pub writes-full : room_left s at < length text → after (told TableFull 0) s ≡ writes bad s at text
+    pub writes-full : room_left s at < length text → after (Err TableFull) s ≡ writes bad s at text
     unfolding writes
     writes-full h = rw (good, lt-ltb (length s - at) (length text) h)
 
-    pub writes-done : length text ≤ room_left s at → after (told 0 (length text)) (written s at text) ≡ writes bad s at text
+    pub writes-done : length text ≤ room_left s at → after (Ok (length text)) (written s at text) ≡ writes bad s at text
     unfolding writes
     writes-done h = rw (good, le-ltb (length s - at) (length text) h)
-
--- a refusal is told by a code that is not 0
-pub refused-told : {A : Type 0} (r : WriteAnswer) (code : ℕ) → 0 < code → r ≡ told code 0 → r.code ≡ 0 → A
-refused-told r code h e z = absurd (omega (arith, ap (λ (a : WriteAnswer). a.code) e))
-
--- and by its code, which is 0, 1 or 11
-pub writes-coded : (bad : Bool) (s : List ℕ) (at : ℕ) (text : List ℕ) → (writes bad s at text).answer.code ≤ 11
-unfolding writes
-writes-coded true s at text = omega arith
-writes-coded false s at text = go (ltb (length s - at) (length text))
-  where
-    go : (t : Bool) → (cond t (after (told TableFull 0) s) (after (told 0 (length text)) (written s at text))).answer.code ≤ 11
-    go true = omega arith
-    go false = omega arith
 
 -- what is written stands from its place on
 pub written_from : (s : List ℕ) (at : ℕ) (text : List ℕ) → at ≤ length s → drop at (written s at text) ≡ text ++ drop (at + length text) s

@@ -1,11 +1,11 @@
 -- Texts written one behind the other are one text.
 use mathlib.Core.Path.{◌≡◌, refl, sym, ap, subst, ◌∙◌}
-use mathlib.Core.List.{List, [], ◌∷◌, ◌++◌, append_assoc}
-use Prim.Native.Nat.{ℕ, suc, ◌+◌, ◌≤◌, ◌<◌}
-use native.Mathlib.Numerals.{add-one}
+use mathlib.Core.List.{List, [], ◌++◌, append_assoc}
+use Prim.Native.Nat.{ℕ, ◌+◌, ◌≤◌}
 use native.Mathlib.Omega.{arith}
-use lib.ListN.{length, take, drop, set, length-append}
-use lib.Seq.{length-take-le, take_at, drop-append-add, drop-drop, set_split, append_snoc, paste-zero}
+use lib.ListN.{length, take, drop, length-append, length-drop}
+use lib.Seq.{length-take-le, take_at, drop-append-add, drop-drop, paste-zero}
+use Rattle.log_file.specs.declared.texts.Text.{Text}
 use Rattle.log_file.specs.Written.{written, Wrote}
 
 module _ (s t u : List ℕ) (at : ℕ) (room : at ≤ length s) where
@@ -22,20 +22,23 @@ module _ (s t u : List ℕ) (at : ℕ) (room : at ≤ length s) where
       rw (take_at p rest (at + length t) up_to, behind, append_assoc (take at s) t u, end)
 
 -- the same text
-pub wrote_as : {s t u s₁ : List ℕ} {at r : ℕ} → t ≡ u → Wrote s at t s₁ r → Wrote s at u s₁ r
-wrote_as {s} {t} {u} {s₁} {at} {r} e w = subst (λ (x : List ℕ). Wrote s at x s₁ r) e w
+pub wrote_as : {t u : List ℕ} {before after : Text} → t ≡ u → Wrote before t after → Wrote before u after
+wrote_as {t} {u} {before} {after} e w = subst (λ (x : List ℕ). Wrote before x after) e w
 
 -- nothing
-pub wrote_none : (s : List ℕ) (at : ℕ) → Wrote s at [] s at
-wrote_none s at = record { bytes = paste-zero s at []; place = omega arith }
+pub wrote_none : (text : Text) → Wrote text [] text
+wrote_none text = record { bytes = paste-zero text.bytes.now text.at []; place = omega arith; same_buffer = refl }
 
--- a byte
-pub wrote-byte : (s : List ℕ) (at b : ℕ) → at < length s → Wrote s at (b ∷ []) (set s at b) (at + 1)
-wrote-byte s at b h = record { bytes = set_split s at b h ∙ sym (append_snoc (take at s) b (drop (suc at) s)) ∙ ap (λ (n : ℕ). take at s ++ (b ∷ []) ++ drop n s) (sym (add-one at)); place = refl }
-
-pub wrote-more : {s t u s₁ s₂ : List ℕ} {at r₁ r₂ : ℕ} → at ≤ length s → Wrote s at t s₁ r₁ → Wrote s₁ r₁ u s₂ r₂ → Wrote s at (t ++ u) s₂ r₂
-wrote-more {s} {t} {u} {s₁} {s₂} {at} {r₁} {r₂} room w v =
+pub wrote-more : {t u : List ℕ} {before between after : Text} → before.at ≤ length before.bytes.now → Wrote before t between → Wrote between u after → Wrote before (t ++ u) after
+wrote-more {t} {u} {before} {between} {after} room w v =
     record {
-      bytes = v.bytes ∙ rw (w.bytes, w.place) (written-more s t u at room);
+      bytes = v.bytes ∙ rw (w.bytes, w.place) (written-more before.bytes.now t u before.at room);
       place = omega (arith, w.place, v.place, length-append t u);
+      same_buffer = v.same_buffer ∙ w.same_buffer;
     }
+
+-- the buffer is as long as it was
+pub wrote-length : {text : List ℕ} {before after : Text} → Wrote before text after → before.at + length text ≤ length before.bytes.now → length after.bytes.now ≡ length before.bytes.now
+wrote-length {text} {before} {after} w room =
+    let s = before.bytes.now in
+    rw w.bytes (omega (arith, length-append (take before.at s ++ text) (drop (before.at + length text) s), length-append (take before.at s) text, length-take-le before.at s (omega arith), length-drop (before.at + length text) s))

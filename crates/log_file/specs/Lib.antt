@@ -3,7 +3,6 @@ pub mod Bytes
 pub mod Opening
 pub mod Records
 pub mod Malformed
-pub mod Decimal
 pub mod Written
 pub mod Lines
 pub mod Writer

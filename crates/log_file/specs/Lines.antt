@@ -1,8 +1,7 @@
 -- The lines that a replay prints.
-use Rattle.std.specs.Prelude.{List, [], ◌∷◌, ◌++◌, ℕ, get_or}
-use Rattle.rules.specs.declared.Transfer.{Transfer}
-use Rattle.rules.specs.declared.Answer.{Answer}
-use Rattle.log_file.specs.Decimal.{decimal, signed_decimal}
+use Rattle.std.specs.Prelude.{List, [], ◌∷◌, ◌++◌, ℕ, ℤ, get_or}
+use Rattle.std.specs.Fmt.{decimal, signed_decimal}
+use Rattle.rules.specs.Answers.{Transfer, Answer}
 
 abbrev pub space : ℕ
 space = 32
@@ -27,9 +26,12 @@ abbrev pub bad_head_text : List ℕ
 bad_head_text = 98 ∷ 97 ∷ 100 ∷ 32 ∷ 104 ∷ 101 ∷ 97 ∷ 100 ∷ 101 ∷ 114 ∷ 10 ∷ []
 
 -- "per record its number, code and two numbers"
+abbrev pub figures_text : ℕ → ℕ → ℤ → ℤ → List ℕ
+figures_text number code first second =
+    followed (decimal number) space ++ followed (decimal code) space ++ followed (signed_decimal first) space ++ followed (signed_decimal second) newline
+
 abbrev pub line_text : ℕ → Answer → List ℕ
-line_text number a =
-    followed (decimal number) space ++ followed (decimal a.code) space ++ followed (signed_decimal a.first) space ++ followed (signed_decimal a.second) newline
+line_text number a = figures_text number a.code a.first a.second
 
 -- a transfer's: by its kind none, `in` or `out`, with account and amount. "Money paid out prints `out`."
 unfoldable pub transfer_text : Transfer → List ℕ

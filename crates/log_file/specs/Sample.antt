@@ -1,13 +1,12 @@
 -- Document 01's sample, "Admin 1, then a Balanced stake of 2,000,000 by 7, a withdrawal of 3,000,000 by 7, and a stake of 999,999 by 8", as
 -- one statement: its head, its first record, both ways, and the text that it prints. The proof is by computation.
-use Rattle.std.specs.Prelude.{◌≡◌, List, [], ◌∷◌, ◌++◌, ℕ, pos, negsuc}
+use Rattle.std.specs.Prelude.{◌≡◌, Some, List, [], ◌∷◌, ◌++◌, ℕ, pos, negsuc}
+use Rattle.std.specs.Fmt.{signed_decimal}
 use Rattle.rules.specs.Answers.{refusal, done, no_transfer, transfer_in}
 use Rattle.rules.specs.declared.Operation.TheVariants.{Stake}
-use Rattle.log_file.specs.declared.header.Head.TheVariants.{Admin}
 use Rattle.log_file.specs.Opening.{head_of}
 use Rattle.log_file.specs.Records.{record_of}
 use Rattle.log_file.specs.Writer.{head_text, record_text}
-use Rattle.log_file.specs.Decimal.{signed_decimal}
 use Rattle.log_file.specs.Lines.{opening_text, answer_text, ending_text}
 
 -- a number below 256 in 64 bits
@@ -23,7 +22,7 @@ sample_record =
     (1 ∷ 1 ∷ 0 ∷ 0 ∷ 0 ∷ 0 ∷ 0 ∷ 0 ∷ []) ++ small_word 5 ++ small_word 7 ++ small_word 7 ++ small_word 0 ++ (128 ∷ 132 ∷ 30 ∷ 0 ∷ 0 ∷ 0 ∷ 0 ∷ 0 ∷ [])
 
 pub record Sample : Type 0 where
-  pub head : head_of sample_head ≡ Admin (record { 0 = 1 })
+  pub head : head_of sample_head ≡ Some (record { 0 = 1 })
   pub first : record_of sample_record 0 ≡ record { now = 5; signer = record { 0 = 7 }; operation = Stake (record { pool = 1; staker = record { 0 = 7 }; amount = pos 2_000_000 }) }
   -- and as they are written (request W-201)
   pub head-written : head_text (record { 0 = 1 }) ≡ sample_head

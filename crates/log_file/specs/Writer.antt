@@ -1,15 +1,15 @@
 -- The log as it is written: request W-201, "the 16-byte head and 48-byte records .. into a lent buffer".
-use Rattle.std.specs.Prelude.{Bool, not, cond, List, [], ◌∷◌, ◌++◌, ℕ, ◌-◌, ltb, length}
+use Rattle.std.specs.Prelude.{Bool, not, cond, Result, Ok, Err, List, [], ◌∷◌, ◌++◌, ℕ, ◌-◌, ltb, length}
 use Rattle.std.specs.Int.{w64}
 use Rattle.std.proofs.Common.{of_z}
 use Rattle.rules.specs.Limits.{is_number}
 use Rattle.rules.specs.Operations.{entry_of}
 use Rattle.rules.specs.Step.{malformed}
-use Rattle.rules.specs.Answers.{Malformed, TableFull}
+use Rattle.rules.specs.declared.refusal.Refusal.{Refusal}
+use Rattle.rules.specs.declared.refusal.Refusal.TheVariants.{Malformed, TableFull}
 use Rattle.rules.specs.declared.Account.{Account}
 use Rattle.rules.specs.declared.Entry.{Entry}
 use Rattle.rules.specs.declared.Call.{Call}
-use Rattle.log_file.specs.declared.writer.WriteAnswer.{WriteAnswer}
 use Rattle.log_file.specs.Bytes.{bytes_of}
 use Rattle.log_file.specs.Written.{written}
 
@@ -35,15 +35,12 @@ record_text c = field_text c.now c.signer.0 (entry_of c.operation)
 
 -- ---- where it is written
 
--- a code and the bytes written, and the buffer after it
+-- the bytes written or why none were, and the buffer after it
 pub record WriteOutcome : Type 0 where
-  pub answer : WriteAnswer
+  pub answer : Result ℕ Refusal
   pub buffer : List ℕ
 
-abbrev pub told : ℕ → ℕ → WriteAnswer
-told code bytes = record { code = code; bytes = bytes }
-
-abbrev pub after : WriteAnswer → List ℕ → WriteOutcome
+abbrev pub after : Result ℕ Refusal → List ℕ → WriteOutcome
 after answer buffer = record { answer = answer; buffer = buffer }
 
 -- "behind the buffer's end the room left is 0"
@@ -54,9 +51,9 @@ room_left buffer at = length buffer - at
 -- what is written
 unfoldable pub writes : Bool → List ℕ → ℕ → List ℕ → WriteOutcome
 writes bad buffer at text =
-    cond bad (after (told Malformed 0) buffer)
-    (cond (ltb (room_left buffer at) (length text)) (after (told TableFull 0) buffer)
-    (after (told 0 (length text)) (written buffer at text)))
+    cond bad (after (Err Malformed) buffer)
+    (cond (ltb (room_left buffer at) (length text)) (after (Err TableFull) buffer)
+    (after (Ok (length text)) (written buffer at text)))
 
 -- "a head: admin 0"
 abbrev pub write_head : List ℕ → ℕ → Account → WriteOutcome

@@ -1,78 +1,81 @@
-// The lines that a replay prints, written into a lent buffer. Each function answers the place behind what it wrote.
+// The lines that a replay prints.
 ghost use Rattle.std.specs.Prelude.{◌+◌, ◌≤◌, length};
+ghost use Rattle.rules.specs.Answers.{due, answer_of};
 ghost use Rattle.log_file.specs.Written.{Wrote};
-ghost use Rattle.log_file.specs.Lines.{opening_text, bad_head_text, line_text, transfer_text, answer_text, ending_text, longest};
+ghost use Rattle.log_file.specs.Lines.{opening_text, bad_head_text, figures_text, transfer_text, answer_text, ending_text, longest};
 
-use crate::numbers::{put_bytes, put_number, put_pair, put_signed};
-use rules::{Answer, Transfer};
+use crate::texts::Text;
+use rules::{Answer, Direction, Transfer};
 
-// The room that a caller lends from `at` on: no text here is longer.
+// The room that a caller leaves in the buffer: no text here is longer.
 pub const LONGEST: usize = 178;
 
-pub fn write_opening(text: &mut [u8], at: usize) -> usize
-    requires { at + longest ≤ length text.old }
-    ensures wrote { Wrote text.old at opening_text text.new result }
-    ensures upper_bound { result ≤ at + longest }
-{
-    put_bytes(text, at, b"POL 1\n")
-}
-
-pub fn write_bad_head(text: &mut [u8], at: usize) -> usize
-    requires { at + longest ≤ length text.old }
-    ensures wrote { Wrote text.old at bad_head_text text.new result }
-    ensures upper_bound { result ≤ at + longest }
-{
-    put_bytes(text, at, b"bad header\n")
-}
-
-fn write_line(text: &mut [u8], at: usize, number: u64, answer: Answer) -> usize
-    requires { at + 86 ≤ length text.old }
-    ensures wrote { Wrote text.old at (line_text number answer) text.new result }
-    ensures upper_bound { result ≤ at + 86 }
-{
-    let a = put_number(text, at, number, b' ');
-    let b = put_number(text, a, answer.code, b' ');
-    let c = put_signed(text, b, answer.first, b' ');
-    put_signed(text, c, answer.second, b'\n')
-}
-
-fn write_transfer(text: &mut [u8], at: usize, transfer: Transfer) -> usize
-    requires { at + 46 ≤ length text.old }
-    ensures wrote { Wrote text.old at (transfer_text transfer) text.new result }
-    ensures upper_bound { result ≤ at + 46 }
-{
-    let kind = transfer.kind;
-    match kind {
-        1 => {
-            let next = put_bytes(text, at, b"in ");
-            put_pair(text, next, transfer.account.0, transfer.amount)
-        }
-        2 => {
-            let next = put_bytes(text, at, b"out ");
-            put_pair(text, next, transfer.account.0, transfer.amount)
-        }
-        _ => at,
+impl Text<'_> {
+    pub fn write_opening(&mut self)
+        requires { self.old.at + longest ≤ length self.old.bytes.now }
+        ensures wrote { Wrote self.old opening_text self.new }
+        ensures upper_bound { self.new.at ≤ self.old.at + longest }
+    {
+        self.put_bytes(b"POL 1\n");
     }
-}
 
-// A record's number and answer, then its transfers.
-pub fn write_answer(text: &mut [u8], at: usize, number: u64, answer: Answer) -> usize
-    requires { at + longest ≤ length text.old }
-    ensures wrote { Wrote text.old at (answer_text number answer) text.new result }
-    ensures upper_bound { result ≤ at + longest }
-{
-    let one = answer.one;
-    let two = answer.two;
-    let next = write_line(text, at, number, answer);
-    let next = write_transfer(text, next, one);
-    write_transfer(text, next, two)
-}
+    pub fn write_bad_head(&mut self)
+        requires { self.old.at + longest ≤ length self.old.bytes.now }
+        ensures wrote { Wrote self.old bad_head_text self.new }
+        ensures upper_bound { self.new.at ≤ self.old.at + longest }
+    {
+        self.put_bytes(b"bad header\n");
+    }
 
-pub fn write_ending(text: &mut [u8], at: usize, records: u64, left: u64) -> usize
-    requires { at + longest ≤ length text.old }
-    ensures wrote { Wrote text.old at (ending_text records left) text.new result }
-    ensures upper_bound { result ≤ at + longest }
-{
-    let next = put_bytes(text, at, b"end ");
-    put_pair(text, next, records, left)
+    // A record's number, the code of its answer, and two numbers.
+    fn write_line(&mut self, number: u64, code: u64, first: i64, second: i64)
+        requires { self.old.at + 86 ≤ length self.old.bytes.now }
+        ensures wrote { Wrote self.old (figures_text number code first second) self.new }
+        ensures upper_bound { self.new.at ≤ self.old.at + 86 }
+    {
+        self.put_number(number, b' ');
+        self.put_number(code, b' ');
+        self.put_number(first, b' ');
+        self.put_number(second, b'\n');
+    }
+
+    fn write_transfer(&mut self, transfer: Option<Transfer>)
+        requires { self.old.at + 46 ≤ length self.old.bytes.now }
+        ensures wrote { Wrote self.old (transfer_text (due transfer)) self.new }
+        ensures upper_bound { self.new.at ≤ self.old.at + 46 }
+    {
+        let Some(transfer) = transfer else {
+            return;
+        };
+        match transfer.direction {
+            Direction::In => self.put_bytes(b"in "),
+            Direction::Out => self.put_bytes(b"out "),
+        }
+        self.put_pair(transfer.account.0, transfer.amount);
+    }
+
+    // A record's number and answer, then its transfers.
+    pub fn write_answer(&mut self, number: u64, answer: Answer)
+        requires { self.old.at + longest ≤ length self.old.bytes.now }
+        ensures wrote { Wrote self.old (answer_text number (answer_of answer)) self.new }
+        ensures upper_bound { self.new.at ≤ self.old.at + longest }
+    {
+        match answer {
+            Ok(done) => {
+                self.write_line(number, 0, done.first, done.second);
+                self.write_transfer(done.one);
+                self.write_transfer(done.two);
+            }
+            Err(refusal) => self.write_line(number, refusal.code(), 0, 0),
+        }
+    }
+
+    pub fn write_ending(&mut self, records: u64, left: u64)
+        requires { self.old.at + longest ≤ length self.old.bytes.now }
+        ensures wrote { Wrote self.old (ending_text records left) self.new }
+        ensures upper_bound { self.new.at ≤ self.old.at + longest }
+    {
+        self.put_bytes(b"end ");
+        self.put_pair(records, left);
+    }
 }

@@ -4,12 +4,13 @@
 mod answers;
 mod entries;
 mod header;
-mod numbers;
 mod records;
+mod texts;
 mod words;
 mod writer;
 
-pub use answers::{LONGEST, write_answer, write_bad_head, write_ending, write_opening};
-pub use header::{HEAD, Head, read_head};
+pub use answers::LONGEST;
+pub use header::{HEAD, read_head};
 pub use records::{RECORD, operation_of, read_record};
-pub use writer::{WriteAnswer, write_head, write_record};
+pub use texts::Text;
+pub use writer::{write_head, write_record};

@@ -25,27 +25,26 @@ pub struct Record {
     pub fields: Entry,
 }
 
-// The first eight bytes are read at once.
 fn record_at(bytes: &[u8], at: usize) -> Record
     requires { at + record_bytes ≤ length bytes.now }
     ensures { result ≡ record_at bytes.now at }
 {
-    let first = word_at(bytes, at);
     Record {
-        zeros: first / 0x100_0000,
+        zeros: word_at(bytes, at) / 0x100_0000,
         now: word_at(bytes, at + 8),
         signer: word_at(bytes, at + 16),
         fields: Entry {
-            number: first % 0x100,
-            pool: first / 0x100 % 0x100,
+            number: u64::from(bytes[at]),
+            pool: u64::from(bytes[at + 1]),
             subject: word_at(bytes, at + 24),
             other: word_at(bytes, at + 32),
-            reply: first / 0x1_0000 % 0x100,
+            reply: u64::from(bytes[at + 2]),
             amount: whole::of_word(word_at(bytes, at + 40)),
         },
     }
 }
 
+// Each kind of call by a function of its own: an `impl From` cannot stand here, since both types are of `rules`.
 fn stake_call(e: Entry) -> StakeCall
     ensures { result ≡ stake_call e }
 {
@@ -111,7 +110,7 @@ fn known_if(test: bool, operation: Operation) -> Operation
     if test { operation } else { Operation::Unknown }
 }
 
-// The case of an operation number, with the fields that it does not use tested.
+// The case of an operation number, with the fields that it does not use tested: a match over the log's numbers with a catch-all, as document 01 names it.
 pub fn operation_of(e: Entry) -> Operation
     ensures { result ≡ operation_of e }
 {
@@ -139,7 +138,7 @@ pub fn operation_of(e: Entry) -> Operation
 pub fn read_record(bytes: &[u8], at: usize) -> Call
     requires { at + record_bytes ≤ length bytes.now }
     ensures value { result ≡ record_of bytes.now at }
-    ensures result_value { malformed result ≡ false → record_text result ≡ take record_bytes (drop at bytes.now) }
+    ensures written_back { malformed result ≡ false → record_text result ≡ take record_bytes (drop at bytes.now) }
 {
     let r = record_at(bytes, at);
     Call {

@@ -7,17 +7,22 @@ use native.Mathlib.Omega.{arith}
 use borrow.Author.Tests.{eq-eqb, ne_eqb, eqb-true, le-leb, lt-leb}
 use lib.Dec.{eqb, leb}
 use lib.IntN.{ℤ, pos, nat_abs, ◌-ℤ◌}
+use lib.ListN.{length}
 use lib.Signed.{lt_z}
+use Rattle.std.specs.Prelude.{Ok, Err}
 use Rattle.whole.specs.Whole.{up, dn}
 use Rattle.whole.proofs.Linear.{abs, one, dif, within-abs, lt-true, lt-false}
 use Rattle.rules.specs.Limits.{limit}
 use Rattle.rules.specs.Table.{keep, each}
 use Rattle.rules.specs.Books.{StakeRow, is_zero, stake_gone}
 use Rattle.rules.specs.Sharing.{cut_row, stakes_fit}
-use Rattle.books.specs.Tables.{rows_from}
-use Rattle.books.specs.Words.{stake_row_at}
+use Rattle.rules.specs.declared.refusal.Refusal.TheVariants.{OverLimit}
+use Rattle.books.specs.Layout.{stake_width}
+use Rattle.books.specs.Tables.{rows_from, room_of, table_words}
+use Rattle.books.specs.Words.{stake_row_at, stake_words}
 use Rattle.books.specs.inner.Held.{Fit}
 use Rattle.books.proofs.StakeRows.{held-ok}
+use Rattle.losses.specs.Loss.{answer, left}
 use Rattle.losses.specs.inner.Settling.{Ready, lowered_by, least, left_last, rest_after, stake_at_row}
 use Rattle.losses.specs.declared.Loss.{Loss}
 use Rattle.losses.proofs.Cuts.{cut-last, cut-taken, cut-shrinks}
@@ -110,10 +115,18 @@ module _ {s : List ℕ} {used : ℕ} {l : Loss} (h : Ready s used l) (fit : Fit 
       ∙ fit-below (z -ℤ rest) (omega (arith, w, n, abs z, one z, dif z rest, one (z -ℤ rest)))
 
   -- what `over_limit` tests is what the rules ask
-  pub fits-is : stakes_fit (after_loss s l) ≡ not (lt_z (left_last s l.from l.last l.amount l.balance) least)
+  pub fits-is : stakes_fit (after_loss s l) ≡ not (lt_z (left_last s l) least)
   fits-is =
       let n : ℕ = l.last - l.from in
       ap stakes_fit (after_is h)
       ∙ rows_fit s 0 l.from (todo s used l l.from (pos l.amount)) (λ j p q. size j (omega (arith, h.span.order, h.span.most)))
       ∙ fit-walk n l.from (pos l.amount) (omega (arith, h.ends.inside)) (omega arith) refl
       ∙ fit-last (rest_after s l.amount l.balance (pos l.amount) l.from n) (rest-bound s l.amount l.balance h.loss-is.most (pos l.amount) l.from n refl (λ k p q. within-abs (size k (omega (arith, p, q, h.ends.inside, h.ends.before, h.span.most))))).1
+
+  -- what is told of a loss that is refused, and of one that is shared
+  module _ {over : Bool} (told : over ≡ lt_z (left_last s l) least) where
+    pub refused : over ≡ true → (answer (after_loss s l) ≡ Err OverLimit) × (left s (after_loss s l) ≡ s)
+    refused e = let f : stakes_fit (after_loss s l) ≡ false = fits-is ∙ ap not (sym told ∙ e) in (rw f, rw f)
+
+    pub shared : over ≡ false → (answer (after_loss s l) ≡ Ok (length (after_loss s l))) × (left s (after_loss s l) ≡ table_words stake_words stake_width (room_of stake_width s) (after_loss s l))
+    shared e = let f : stakes_fit (after_loss s l) ≡ true = fits-is ∙ ap not (sym told ∙ e) in (rw f, rw f)

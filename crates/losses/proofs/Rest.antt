@@ -1,17 +1,20 @@
 -- What is left of a loss after some rows that share it, none of them the last: one row more, and its bounds.
-use mathlib.Core.Path.{◌≡◌, refl, ap, ◌∙◌}
+use mathlib.Core.Path.{◌≡◌, refl, sym, ap, ap₂, ◌∙◌}
 use mathlib.Core.Bool.{Bool, true, false}
 use mathlib.Core.List.{List}
 use Prim.Native.Nat.{ℕ, zero, suc, ◌+◌, ◌-◌, ◌*◌, ◌≤◌, ◌<◌}
 use native.Mathlib.Omega.{arith}
-use lib.IntN.{ℤ, ◌-ℤ◌}
+use borrow.Author.Tests.{ne_eqb}
+use lib.Dec.{eqb}
+use lib.IntN.{ℤ, pos, ◌-ℤ◌}
 use lib.Signed.{lt_z}
 use mir.Syntax.{w64}
 use mir.Val.{SFits}
 use Rattle.whole.specs.Whole.{up, dn, Within}
 use Rattle.whole.proofs.Linear.{whole, one, dif}
 use Rattle.rules.specs.Limits.{limit, most_stakes}
-use Rattle.losses.specs.inner.Settling.{NoneBelow, stake_at_row, lowered_by, least, rest_after}
+use Rattle.losses.specs.inner.Settling.{NoneBelow, Sharers, stake_at_row, lowered_by, least, left_last, rest_after}
+use Rattle.losses.specs.declared.Loss.{Loss}
 use Rattle.losses.proofs.Cuts.{cut-taken}
 
 module _ (s : List ℕ) (loss balance : ℕ) where
@@ -66,6 +69,21 @@ module _ {loss balance : ℕ} (h : loss ≤ balance) {from i : ℕ} {rest s : �
   pub left-fits : (last : Bool) → i ≤ from + most_stakes → loss ≤ limit → SFits w64 (s -ℤ lowered_by loss balance last rest s)
   left-fits last few l = let t = cut-taken loss balance h rest s q.nonneg last in omega (arith, whole, t, small, q)
 
+-- ---- a turn of the loop that finds the rest
+
+module _ {s : List ℕ} {l : Loss} (p : Sharers s l) {i : ℕ} {rest stake cut : ℤ} (order : l.from ≤ i) (more : i < l.last) (q : Resting l.amount l.from i rest)
+    (read : stake ≡ stake_at_row s i) (lowers : cut ≡ lowered_by l.amount l.balance (eqb i l.last) rest stake)
+  where
+    cut-is : cut ≡ lowered_by l.amount l.balance false rest (stake_at_row s i)
+    cut-is = lowers ∙ ap₂ (λ (b : Bool) (z : ℤ). lowered_by l.amount l.balance b rest z) (ne_eqb i l.last (λ e. omega arith)) read
+
+    pub rest-word : SFits w64 (rest -ℤ cut)
+    rest-word = rw cut-is (rest-fits p.most (p.small i order (omega arith)) q order false (omega (arith, p.few)) p.within)
+
+    pub rest-next : {next : ℤ} → next ≡ rest -ℤ cut
+        → Resting l.amount l.from (i + 1) next × (rest_after s l.amount l.balance next (i + 1) (l.last - (i + 1)) ≡ rest_after s l.amount l.balance rest i (l.last - i))
+    rest-next e = rw (e, cut-is) (rest-on p.most (p.small i order (omega arith)) q order false, sym (rest-step s l.amount l.balance rest i l.last more))
+
 -- ---- the last sharer
 
 -- a stake that is not below 0 bears a rest within the limit
@@ -75,3 +93,17 @@ not-over s rest p m n = go (lt_z (s -ℤ rest) least) refl
     go : (t : Bool) → lt_z (s -ℤ rest) least ≡ t → t ≡ false
     go true e = absurd (omega (arith, whole, e, dif s rest, one (s -ℤ rest)))
     go false e = refl
+
+module _ {s : List ℕ} {l : Loss} (p : Sharers s l) where
+  -- where no stake is below 0, the last sharer bears the rest
+  pub none-over : NoneBelow s l.from (l.last + 1) → lt_z (left_last s l) least ≡ false
+  none-over none =
+      let n : ℕ = l.last - l.from in
+      let f = rest-falls s l.amount l.balance p.most (pos l.amount) l.from n refl (record { none = λ k a b. none.none k a (omega (arith, b, p.order)) }) in
+      not-over (stake_at_row s l.last) (rest_after s l.amount l.balance (pos l.amount) l.from n) (none.none l.last p.order (omega arith)) (omega (arith, f.0, p.within)) f.1
+
+  -- what is left of its stake has a word
+  pub left-word : SFits w64 (left_last s l)
+  left-word =
+      let b = rest-bound s l.amount l.balance p.most (pos l.amount) l.from (l.last - l.from) refl (λ k x y. p.small k x (omega (arith, y, p.order))) in
+      omega (arith, whole, b, p.small l.last p.order (omega arith), p.few, p.order, p.within)

@@ -37,7 +37,7 @@ module _ {s : List ℕ} {used : ℕ} {l : Loss} (h : Ready s used l) where
   pub part_of : {z : ℤ} → Within limit z → Divisible z l.amount l.balance
   part_of w = record { small = w; some = omega (arith, h.loss-is.some, h.loss-is.most); most = h.loss-is.most; large = balance-large }
 
-  pub sharers-of : Sharers s l.from l.last l.amount l.balance
+  pub sharers-of : Sharers s l
   sharers-of =
       let span = h.span in
       let ends = h.ends in

@@ -1,15 +1,20 @@
 -- The loop that writes a settled loss, in words and rows: one row more, its begin and its end. Throughout, s₀ are the words at its begin.
-use mathlib.Core.Path.{◌≡◌, refl, sym, ap, ap₂, ◌∙◌}
+use mathlib.Core.Path.{◌≡◌, refl, sym, ap, ap₂, subst⁻¹, ◌∙◌}
 use mathlib.Core.Bool.{Bool, true, false, cond}
 use mathlib.Core.List.{List, ◌∷◌, ◌++◌, append_assoc}
 use Prim.Native.Nat.{ℕ, ◌+◌, ◌-◌, ◌*◌, ◌≤◌, ◌<◌}
 use native.Mathlib.Omega.{arith}
+use lib.Dec.{eqb}
 use lib.IntN.{ℤ, pos, ◌-ℤ◌}
 use lib.ListN.{length, get_or, take, drop, length-append, replicate-append-replicate}
 use lib.Seq.{drop-drop, drop_at, take_at, length-take-le, get_or-drop}
+use mir.Syntax.{w64}
+use mir.Val.{SFits}
+use Rattle.whole.specs.Whole.{Within}
 use Rattle.rows.specs.Rows.{word, zeros}
 use Rattle.rows.specs.inner.Moves.{row_written, closed}
 use Rattle.rows.proofs.Table.{written-length}
+use Rattle.rules.specs.Limits.{limit, most_stakes}
 use Rattle.rules.specs.Table.{keep}
 use Rattle.rules.specs.Books.{StakeRow, stake_gone}
 use Rattle.rules.specs.Sharing.{cut_row}
@@ -20,10 +25,11 @@ use Rattle.books.specs.inner.Held.{Fit}
 use Rattle.books.proofs.Lists.{rows-length}
 use Rattle.books.proofs.Flat.{flat_append, flat_rows, blank-zeros}
 use Rattle.books.proofs.StakeRows.{same-words}
-use Rattle.losses.specs.inner.Settling.{Ready}
+use Rattle.losses.specs.inner.Settling.{Ready, Divisible, lowered_by, stake_at_row}
 use Rattle.losses.specs.declared.Loss.{Loss}
 use Rattle.losses.proofs.Walk.{rows, onward-none, sharers-none}
-use Rattle.losses.proofs.Rest.{Resting}
+use Rattle.losses.proofs.Rest.{Resting, rest-on, rest-fits, left-fits}
+use Rattle.losses.proofs.Sizes.{few-rows, stake-small, part_of}
 use Rattle.losses.proofs.Turns.{after_loss, todo, cut_at, after_none, after_is, turn}
 
 -- ---- a row written below the rows that are still to be read
@@ -128,6 +134,40 @@ module _ {s₀ : List ℕ} {used : ℕ} {l : Loss} (h : Ready s₀ used l) (fit 
           count = omega (arith, ap length t, m.count);
           resting = rests;
         }
+
+  -- the same of a turn of the code: the row that is read, what it loses, and what may be asked of both
+  module _ {s : List ℕ} {i at : ℕ} {rest : ℤ} (m : Mid s i at rest) (q : i < l.to) {row : StakeRow} (read : row ≡ stake_row_at s i) where
+    row_is : row ≡ stake_row_at s₀ i
+    row_is = read ∙ same_row m q
+
+    small : Within limit (stake_at_row s₀ i)
+    small = stake-small h i (omega (arith, h.span.most))
+
+    passed : l.from ≤ i
+    passed = omega (arith, m.low, m.order)
+
+    few : i ≤ l.from + most_stakes
+    few = omega (arith, m.most, h.span.most, few-rows h)
+
+    pub divisible : Divisible row.stake l.amount l.balance
+    divisible = part_of h (subst⁻¹ (λ (r : StakeRow). Within limit r.stake) row_is small)
+
+    module _ {cut : ℤ} (lowers : cut ≡ lowered_by l.amount l.balance (eqb i l.last) rest row.stake) where
+      cut-is : cut ≡ cut_at s₀ l i rest
+      cut-is = lowers ∙ ap (λ (r : StakeRow). lowered_by l.amount l.balance (eqb i l.last) rest r.stake) row_is
+
+      pub rest-word : SFits w64 (rest -ℤ cut)
+      rest-word = rw cut-is (rest-fits h.loss-is.most small m.resting passed (eqb i l.last) few h.loss-is.within)
+
+      pub stake-word : SFits w64 (row.stake -ℤ cut)
+      stake-word = rw (row_is, cut-is) (left-fits h.loss-is.most small m.resting passed (eqb i l.last) few h.loss-is.within)
+
+      pub next-row : {line : StakeRow} {left : ℤ} {s' : List ℕ} {at' : ℕ} → line ≡ cut_row row cut → left ≡ rest -ℤ cut
+          → at' ≡ cond (stake_gone line) at (at + 1) → s' ≡ cond (stake_gone line) s (row_written s stake_width at (stake_words line)) → Mid s' (i + 1) at' left
+      next-row {line} lowered less =
+          let less-is = less ∙ ap (λ (z : ℤ). rest -ℤ z) cut-is in
+          row_on m q line (lowered ∙ ap₂ cut_row row_is cut-is) less-is
+          (subst⁻¹ (Resting l.amount l.from (i + 1)) less-is (rest-on h.loss-is.most small m.resting passed (eqb i l.last)))
 
   -- all rows of the pool are passed: those after them go down, and zeros follow
   module _ {s : List ℕ} {at : ℕ} {rest : ℤ} (m : Mid s l.to at rest) where

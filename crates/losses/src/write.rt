@@ -13,9 +13,8 @@ ghost use Rattle.losses.specs.Loss.{after};
 ghost use Rattle.losses.specs.inner.Settling.{Ready};
 
 use crate::Loss;
-use crate::share::cut_of;
-use books::Stake;
 use books::layout::STAKE_WIDTH;
+use books::{Row, Stake};
 
 // A row less what it loses. Where nothing is left of its stake, `since` is 0 and the accrual stays.
 fn cut_row(row: Stake, cut: u64) -> Stake
@@ -23,21 +22,10 @@ fn cut_row(row: Stake, cut: u64) -> Stake
     ensures { stake_of result ≡ cut_row (stake_of row) (to_z w64 cut) }
 {
     let stake = whole::sub(row.stake, cut);
-    if stake == 0 {
-        return Stake {
-            pool: row.pool,
-            account: row.account,
-            stake,
-            since: 0,
-            accrual: row.accrual,
-        };
-    }
     Stake {
-        pool: row.pool,
-        account: row.account,
         stake,
-        since: row.since,
-        accrual: row.accrual,
+        since: if stake == 0 { 0 } else { row.since },
+        ..row
     }
 }
 
@@ -47,41 +35,34 @@ fn keep_row(stakes: &mut [u64], at: usize, row: Stake) -> usize
     ensures value { result ≡ cond (stake_gone (stake_of row)) at (at + 1) }
     ensures stakes_after { stakes.new ≡ cond (stake_gone (stake_of row)) stakes.old (row_written stakes.old stake_width at (stake_words (stake_of row))) }
 {
-    if books::is_gone(row) {
+    if row.is_gone() {
         return at;
     }
-    books::write_stake(stakes, at, row);
+    row.write(stakes, at);
     at + 1
 }
 
-// Lowers the stakes of the pool's rows, in row order, and takes out those that are left with nothing. Returns the number of used rows.
-pub fn lower(stakes: &mut [u64], used: usize, loss: Loss) -> usize
-    requires { Ready stakes.old used loss }
-    ensures value { result ≡ length (after stakes.old loss.pool loss.amount loss.balance) }
-    ensures stakes_after { stakes.new ≡ table_words stake_words stake_width (room_of stake_width stakes.old) (after stakes.old loss.pool loss.amount loss.balance) }
-{
-    let mut rest = loss.amount;
-    let mut at = loss.from;
-    let mut i = loss.from;
-    while i < loss.to {
-        let here = i;
-        i += 1;
-        let row = books::stake_at(stakes, here);
-        let cut = cut_of(
-            row.stake,
-            rest,
-            here == loss.last,
-            loss.amount,
-            loss.balance,
+impl Loss {
+    // Lowers the stakes of the pool's rows, in row order, and takes out those that are left with nothing. Returns the number of used rows.
+    pub fn lower(self, stakes: &mut [u64], used: usize) -> usize
+        requires { Ready stakes.old used self }
+        ensures value { result ≡ length (after stakes.old self.pool self.amount self.balance) }
+        ensures stakes_after { stakes.new ≡ table_words stake_words stake_width (room_of stake_width stakes.old) (after stakes.old self.pool self.amount self.balance) }
+    {
+        let mut rest = self.amount;
+        let mut at = self.from;
+        for i in self.from..self.to {
+            let row = Stake::at(stakes, i);
+            let cut = self.cut_of(i, row.stake, rest);
+            rest = whole::sub(rest, cut);
+            at = keep_row(stakes, at, cut_row(row, cut));
+        }
+        rows::close(
+            stakes,
+            at * STAKE_WIDTH,
+            self.to * STAKE_WIDTH,
+            used * STAKE_WIDTH,
         );
-        rest = whole::sub(rest, cut);
-        at = keep_row(stakes, at, cut_row(row, cut));
+        at + (used - self.to)
     }
-    rows::close(
-        stakes,
-        at * STAKE_WIDTH,
-        loss.to * STAKE_WIDTH,
-        used * STAKE_WIDTH,
-    );
-    at + (used - loss.to)
 }

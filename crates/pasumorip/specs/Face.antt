@@ -1,14 +1,12 @@
 -- What C and Rust get from the library, over the words and bytes that they lend.
-use Rattle.std.specs.Prelude.{cond, ◌&&◌, List, [], ◌∷◌, ◌++◌, ℕ, eqb, leb, length, get_or}
+use Rattle.std.specs.Prelude.{cond, ◌&&◌, List, [], ◌∷◌, ◌++◌, ℕ, eqb, leb, length, get_or, Result, Ok, Err}
 use Rattle.std.specs.Int.{w64}
 use Rattle.std.proofs.Common.{of_z}
-use Rattle.rows.specs.declared.Place.{Place}
-use Rattle.rows.specs.declared.Place.TheVariants.{At, Gap}
 use Rattle.rules.specs.declared.Account.{Account}
 use Rattle.rules.specs.declared.Offer.{Offer}
 use Rattle.rules.specs.declared.Entry.{Entry}
-use Rattle.rules.specs.declared.Answer.{Answer}
-use Rattle.rules.specs.Answers.{refusal, Malformed, BadTables}
+use Rattle.rules.specs.Answers.{Answer}
+use Rattle.rules.specs.Answers.{refusal, told_code, Malformed, BadTables}
 use Rattle.books.specs.Words.{Tables, books_of, good_tables, step_words}
 use Rattle.log_file.specs.Records.{record_bytes, call_of, record_of}
 use Rattle.log_file.specs.Writer.{WriteOutcome, write_head, write_record}
@@ -16,8 +14,7 @@ use Rattle.history.specs.declared.Progress.{Progress}
 use Rattle.history.specs.Replays.{replayed}
 use Rattle.queries.specs.Queries.{query_words}
 use Rattle.queries.specs.Asking.{question_of}
-use Rattle.queries.specs.declared.lookups.LookupAnswer.{LookupAnswer}
-use Rattle.queries.specs.Lookups.{stake_lookup, offer_lookup}
+use Rattle.queries.specs.Lookups.{LookupAnswer, stake_lookup, offer_lookup}
 
 -- ---- answers as words
 
@@ -77,9 +74,9 @@ abbrev pub lookup_length : ℕ
 lookup_length = 4
 
 -- 1 and where the row is, or 0 and where it would be put in
-abbrev pub place_words : Place → List ℕ
-place_words (At i) = 1 ∷ i ∷ []
-place_words (Gap i) = 0 ∷ i ∷ []
+abbrev pub place_words : Result ℕ ℕ → List ℕ
+place_words (Ok i) = 1 ∷ i ∷ []
+place_words (Err i) = 0 ∷ i ∷ []
 
 -- code, place, and the number of rows read
 abbrev pub lookup_words : LookupAnswer → List ℕ
@@ -136,7 +133,7 @@ abbrev pub buffered : ℕ → List ℕ → Buffered
 buffered code buffer = record { code = code; buffer = buffer }
 
 abbrev pub shown : WriteOutcome → Buffered
-shown w = buffered w.answer.code w.buffer
+shown w = buffered (told_code w.answer) w.buffer
 
 unfoldable pub head_written : List ℕ → ℕ → Account → Buffered
 head_written buffer at admin = shown (write_head buffer at admin)

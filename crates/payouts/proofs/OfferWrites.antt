@@ -1,34 +1,32 @@
 -- An offer's row found and written, on good tables.
-use mathlib.Core.Path.{◌≡◌, refl, ap₂, ◌∙◌, subst⁻¹}
+use mathlib.Core.Path.{◌≡◌, ap, ap₂, ◌∙◌, subst⁻¹}
 use mathlib.Core.Bool.{true}
 use mathlib.Core.List.{List}
-use Prim.Native.Nat.{ℕ, ◌+◌}
+use Prim.Native.Nat.{ℕ, ◌+◌, ◌≤◌, ◌<◌}
 use native.Mathlib.Omega.{arith}
 use lib.ListN.{set}
-use Rattle.rules.specs.Books.{OfferRow, offer_at, put_offer}
+use Rattle.rules.specs.Limits.{flat}
+use Rattle.rules.specs.Books.{OfferRow, offer_at, put_offer, unpaid_of}
 use Rattle.rules.specs.declared.Offer.{Offer}
-use Rattle.books.specs.Layout.{offer_width, unpaid_words}
-use Rattle.books.specs.Tables.{used_of}
+use Rattle.books.specs.Layout.{unpaid_words, pools}
 use Rattle.books.specs.Words.{Tables, tables, books_of, words_of, good_tables}
 use Rattle.books.specs.inner.Held.{Fit, HeldOffers, CanPutOffer, OfferPut, offer_of}
 use Rattle.books.proofs.Good.{good-read, offers-held}
-use Rattle.books.proofs.Writing.{write-offers}
-use Rattle.payouts.specs.declared.offer.Found.{Found}
-use Rattle.payouts.specs.declared.offer.OfferChange.{OfferChange}
-use Rattle.payouts.specs.inner.Offers.{Searchable, offer_line, found_in, CanWriteOffer, offer_written}
+use Rattle.books.proofs.Writing.{write-offers, unpaid-is}
+use Rattle.payouts.specs.declared.offer.OfferState.{OfferState}
+use Rattle.payouts.specs.inner.Offers.{Searchable, found_in, state_of, CanWriteOffer, offer_written}
 
 -- what is found, in the books that the words hold
-abbrev pub found : Tables → ℕ → Offer → Found
-found t pool offer = record { used = used_of offer_width t.offers; row = offer_line (offer_at (books_of t) pool offer) }
-
-pub found-is : (t : Tables) (pool : ℕ) (offer : Offer) → found_in t.offers pool offer ≡ found t pool offer
+pub found-is : (t : Tables) (pool : ℕ) (offer : Offer) → pool < pools → found_in t.offers t.books pool offer ≡ state_of t (offer_at (books_of t) pool offer) (unpaid_of (books_of t) pool)
 unfolding books_of
-found-is t pool offer = refl
+found-is t pool offer h = ap (state_of t (offer_at (books_of t) pool offer)) (unpaid-is t pool h)
 
-pub searchable : (t : Tables) → good_tables t ≡ true → Searchable t.offers
-searchable t g = record { tidy-is = (good-read t g).offers-tidy; held = offers-held t g }
+pub searchable : (s o b : List ℕ) → good_tables (tables s o b) ≡ true → (pool : ℕ) → pool ≤ flat → Searchable o b pool
+searchable s o b g pool h =
+    let t = tables s o b in
+    record { tidy-is = (good-read t g).offers-tidy; held = offers-held t g; pool-is = omega (arith, h) }
 
-module _ (s o b : List ℕ) (w : OfferChange) (h : CanWriteOffer (tables s o b) w) where
+module _ (s o b : List ℕ) (w : OfferState) (h : CanWriteOffer (tables s o b) w) where
   abbrev t : Tables
   t = tables s o b
 
@@ -44,8 +42,8 @@ module _ (s o b : List ℕ) (w : OfferChange) (h : CanWriteOffer (tables s o b) 
     room = h.room;
   }
 
-  pub row_written_lem : (o' b' : List ℕ) (n : ℕ) → Fit s → Fit b → OfferPut r o o' n → b' ≡ set b (unpaid_words + r.pool) w.unpaid → tables s o' b' ≡ words_of (offer_written (books_of t) w)
+  pub row-written : (o' b' : List ℕ) (n : ℕ) → Fit s → Fit b → OfferPut r o o' n → b' ≡ set b (unpaid_words + r.pool) w.unpaid → tables s o' b' ≡ words_of (offer_written (books_of t) w)
   unfolding books_of
-  row_written_lem o' b' n fs fb p e =
+  row-written o' b' n fs fb p e =
       ap₂ (λ (x y : List ℕ). tables s x y) p.words e
       ∙ write-offers s o b h.good fs fb (put_offer (books_of t) r) r.pool w.unpaid (let q = h.fine.pool in omega arith)

@@ -1,5 +1,6 @@
 // Pay, reserve and claim on lent words: settled on what is lent, then written.
-#![tactic(auto)]
+// Each proof may use what good tables give.
+#![tactic(auto, using(crate::proofs::PoolFigures::tidy_stakes, crate::proofs::OfferWrites::searchable))]
 
 mod claim;
 mod loss;

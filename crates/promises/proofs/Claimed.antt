@@ -8,7 +8,7 @@ use lib.Dec.{eqb}
 use lib.IntN.{pos, ◌-ℤ◌}
 use lib.Signed.{lt_z, le_z, ◌≤ℤ◌}
 use Rattle.whole.specs.Whole.{up, min_z}
-use Rattle.whole.proofs.Linear.{whole, dif, lesser-is, le_read}
+use Rattle.whole.proofs.Linear.{whole, dif, lesser-is}
 use Rattle.rules.specs.Limits.{limit, flat}
 use Rattle.rules.specs.Books.{Books, balance_of, unpaid_of}
 use Rattle.rules.specs.Answers.{Plan, refused, does, ◌refuses◌else◌, enact, not_by, no_transfer, transfer_out, Paused, OverLimit}
@@ -58,7 +58,7 @@ module _ (b : Books) (w : WellFormed b) (now : ℕ) (signer : Account) (c : Clai
       omega (arith, whole, a, u, lesser-is x (available b c), lesser-is c.amount (pos (cover_of b c)))
 
   loss-most : due ≤ up (balance_of b c.pool)
-  loss-most = omega (arith, le_read covered, part)
+  loss-most = omega (arith, whole, part)
 
   last : (t : Bool) → loss_over b c.pool due ≡ t → PaysOrFalls b c due (t refuses OverLimit else does (pos due) (pos (cover_of b c - due)) (transfer_out c.lender due) no_transfer (after_claim b c due))
   unfolding loss_over

@@ -9,4 +9,4 @@ pub use Rattle.rules.specs.declared.RateCall.{RateCall}
 pub use Rattle.rules.specs.declared.Operation.{Operation}
 pub use Rattle.rules.specs.declared.Operation.TheVariants.{Stake, Withdraw, Pay, Reserve, Claim, Rate, Pause, Unpause, PayoutCaller, Unknown}
 pub use Rattle.rules.specs.declared.Call.{Call}
-pub use Rattle.rules.specs.declared.Answer.{Answer}
+pub use Rattle.rules.specs.Answers.{Answer}

@@ -10,7 +10,7 @@ use Rattle.rules.specs.Terms.{yield_rate, accrued_sum}
 use Rattle.rules.specs.Table.{all, count}
 use Rattle.rules.specs.Books.{Books, stake_at, offer_at, balance_of, unpaid_of}
 use Rattle.rules.specs.Sharing.{sharer}
-use Rattle.rules.specs.declared.Answer.{Answer}
+use Rattle.rules.specs.Answers.{Answer}
 use Rattle.rules.specs.Answers.{refusal, Malformed, BadTables, OverLimit}
 use Rattle.rules.specs.Calls.{account_no, offer_no}
 use Rattle.rules.specs.Queries.{told, asked, get_stake, accrued_yield, get_pool, get_stakers_count, get_offer}

@@ -1,45 +1,75 @@
--- The order of a query's answers: its fields, then the tables, then what the rules answer.
-use mathlib.Core.Path.{◌≡◌, refl}
+-- The order of an answer: the fields, then the tables, then what the rules answer.
+use mathlib.Core.Path.{◌≡◌, refl, ap, ◌∙◌}
 use mathlib.Core.Bool.{Bool, true, false, cond, ◌&&◌}
 use mathlib.Core.List.{List, ◌∷◌}
+use Prim.Native.Nat.{ℕ}
 use native.Mathlib.Omega.{arith}
 use lib.Dec.{eqb}
 use lib.IntN.{ℤ, pos}
-use Rattle.rules.specs.declared.Answer.{Answer}
+use Rattle.std.specs.Prelude.{Result, IsErrAnd}
+use Rattle.std.proofs.lemmas.Result.{err_from_is_err_and}
+use Rattle.rules.specs.declared.refusal.Refusal.{Refusal}
+use Rattle.rules.specs.declared.answers.Done.{Done}
 use Rattle.rules.specs.Table.{each, all}
-use Rattle.rules.specs.Answers.{refusal, Malformed, BadTables, OverLimit}
+use Rattle.rules.specs.Answers.{Answer, answer_of, code_of, refusal, Malformed, BadTables, OverLimit}
 use Rattle.rules.specs.Queries.{asked, told}
 use Rattle.books.specs.Words.{Tables, good_tables}
 use Rattle.queries.specs.inner.Gate.{gate_code}
 use Rattle.queries.specs.Queries.{query_words}
 
--- a question that is answered
+-- a question that the gate lets through
 pub record Open (t : Tables) (fields : Bool) : Type 0 where
   pub met : fields ≡ true
   pub good : good_tables t ≡ true
 
-pub open-read : (t : Tables) (fields : Bool) → gate_code t fields ≡ 0 → Open t fields
+pub open-read : (t : Tables) (fields : Bool) → 0 ≡ gate_code t fields → Open t fields
 open-read t false e = absurd (omega arith)
 open-read t true e = go (good_tables t) refl e
   where
-    go : (g : Bool) → good_tables t ≡ g → cond g 0 BadTables ≡ 0 → Open t true
+    go : (g : Bool) → good_tables t ≡ g → 0 ≡ cond g 0 BadTables → Open t true
     go true f e = record { met = refl; good = f }
     go false f e = absurd (omega arith)
 
--- an answer that is not itself Malformed
-module _ (t : Tables) (a : Answer) (n : eqb a.code Malformed ≡ false) where
-  pub gate-answers : (fields : List Bool) → Open t (all fields) → a ≡ query_words t (asked fields a)
-  unfolding query_words
-  gate-answers fields o = rw (o.met, n, o.good)
+some-code : (r : Refusal) → code_of r ≡ 0 → ⊥
+some-code r e = grind arith
 
-  pub gate-refuses : (fields : List Bool) → (gate_code t (all fields) ≡ 0 → ⊥) → refusal (gate_code t (all fields)) ≡ query_words t (asked fields a)
-  unfolding query_words
-  gate-refuses fields = go (all fields) (good_tables t)
+-- ---- an answer behind the gate, of a query or a lookup
+
+module _ {A : Type 0} (refused : ℕ → A) (answer : A) (t : Tables) (fields : Bool) where
+  abbrev pub gated : A
+  gated = cond fields (cond (good_tables t) answer (refused BadTables)) (refused Malformed)
+
+  pub let-through : 0 ≡ gate_code t fields → answer ≡ gated
+  let-through e = let o = open-read t fields e in rw (o.met, o.good)
+
+  pub turned-away : (r : Refusal) → code_of r ≡ gate_code t fields → refused (code_of r) ≡ gated
+  turned-away r = go fields (good_tables t)
     where
-      go : (f g : Bool) → (cond f (cond g 0 BadTables) Malformed ≡ 0 → ⊥) → refusal (cond f (cond g 0 BadTables) Malformed) ≡ cond (eqb (cond f a (refusal Malformed)).code Malformed) (cond f a (refusal Malformed)) (cond g (cond f a (refusal Malformed)) (refusal BadTables))
-      go false g h = refl
-      go true true h = absurd (h refl)
-      go true false h = rw n
+      go : (f g : Bool) → code_of r ≡ cond f (cond g 0 BadTables) Malformed → refused (code_of r) ≡ cond f (cond g answer (refused BadTables)) (refused Malformed)
+      go false g e = ap refused e
+      go true false e = ap refused e
+      go true true e = absurd (some-code r e)
+
+-- ---- a query's, whose own answer is never Malformed
+
+module _ (t : Tables) (fields : List Bool) (a : Answer) (n : eqb a.code Malformed ≡ false) where
+  in_order : gated refusal a t (all fields) ≡ query_words t (asked fields a)
+  unfolding query_words
+  in_order = go (all fields) (good_tables t)
+    where
+      go : (f g : Bool) → cond f (cond g a (refusal BadTables)) (refusal Malformed) ≡ cond (eqb (cond f a (refusal Malformed)).code Malformed) (cond f a (refusal Malformed)) (cond g (cond f a (refusal Malformed)) (refusal BadTables))
+      go false g = refl
+      go true true = rw n
+      go true false = rw n
+
+  module _ (met : Bool) (is : met ≡ all fields) where
+    pub gate-answers : 0 ≡ gate_code t met → a ≡ query_words t (asked fields a)
+    gate-answers e = let-through refusal a t met e ∙ ap (gated refusal a t) is ∙ in_order
+
+    pub gate-refuses : (r : Refusal) → code_of r ≡ gate_code t met → (out : Result Done Refusal) → IsErrAnd out (λ x. x ≡ r) → answer_of out ≡ query_words t (asked fields a)
+    gate-refuses r e out x =
+        let p = err_from_is_err_and out x in
+        ap answer_of p.1 ∙ ap (λ (y : Refusal). refusal (code_of y)) p.2 ∙ turned-away refusal a t met r e ∙ ap (gated refusal a t) is ∙ in_order
 
 -- ---- fields
 

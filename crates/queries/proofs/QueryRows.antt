@@ -1,28 +1,32 @@
 -- What the queries read of good tables, and what is told of it.
-use mathlib.Core.Path.{◌≡◌, sym, ap, ap₂, ◌∙◌, subst⁻¹}
+use mathlib.Core.Path.{◌≡◌, refl, sym, ap, ap₂, ◌∙◌, subst⁻¹}
 use mathlib.Core.Bool.{Bool, true, false, cond}
 use mathlib.Core.List.{List, [], ◌∷◌}
-use Prim.Native.Nat.{ℕ, suc, ◌+◌, ◌-◌, ◌^◌, ◌≤◌, ◌<◌}
+use Prim.Native.Nat.{ℕ, zero, suc, ◌+◌, ◌^◌, ◌≤◌, ◌<◌}
 use native.Mathlib.Omega.{arith}
+use Rattle.std.proofs.Common.{add-one}
 use lib.Dec.{leb}
 use lib.IntN.{ℤ, pos, nat_abs}
 use lib.ListN.{length, get_or}
 use mir.Syntax.{w64}
-use mir.Val.{to_z}
+use mir.Val.{to_z, of_z}
 use mir.ValLaws.{to_z_pos}
 use Rattle.rules.specs.Limits.{limit, last_time, greatest_rate, two_to64}
 use Rattle.rules.specs.Terms.{yield_rate, accrued_sum}
 use Rattle.rules.specs.inner.Accrued.{accrued_answer}
-use Rattle.rules.specs.declared.terms.Accrued.{Accrued}
-use Rattle.rules.specs.declared.terms.Accrued.TheVariants.{Sum, Beyond}
+use Rattle.std.specs.Prelude.{Result, Ok, Err}
+use Rattle.std.specs.List.{filter, range_with_len}
+use Rattle.rules.specs.declared.refusal.Refusal.{Refusal}
+use Rattle.rules.specs.declared.refusal.Refusal.TheVariants as reason
 use Rattle.rules.specs.Table.{count}
 use Rattle.rules.specs.Books.{StakeRow, OfferRow, balance_of, unpaid_of, stake_at, offer_at}
 use Rattle.rules.specs.Sharing.{sharer}
 use Rattle.rules.specs.declared.Account.{Account}
 use Rattle.rules.specs.declared.Offer.{Offer}
-use Rattle.rules.specs.Answers.{refusal, OverLimit}
+use Rattle.rules.specs.Answers.{refusal, code_of, OverLimit}
 use Rattle.rules.specs.Queries.{told}
-use Rattle.rules.proofs.AccruedLaws.{sum-read, beyond-read}
+use Rattle.rules.proofs.AccruedLaws.{sum-read}
+use Rattle.rules.proofs.Tests.{cases}
 use Rattle.rules.proofs.Ranges.{rate-most}
 use Rattle.rules.proofs.Writes.{old-stake, old-offer}
 use Rattle.books.specs.Layout.{stake_width, offer_width, pools, unpaid_words, rate_word}
@@ -31,39 +35,25 @@ use Rattle.books.specs.Words.{Tables, stake_row_at, books_of, good_tables}
 use Rattle.books.specs.inner.Held.{stake_of, stake_for, offer_of, offer_for, HeldStakes, HeldOffers}
 use Rattle.books.specs.declared.stakes.Stake.{Stake}
 use Rattle.books.specs.declared.offers.OfferLine.{OfferLine}
-use Rattle.books.proofs.Lists.{rows_before, rows-done}
 use Rattle.books.proofs.Good.{good-formed, stakes-held, offers-held, good-unpaid}
 use Rattle.books.proofs.Writing.{balance-is, unpaid-is, rate-is, stake-is, offer-is, stakes-are}
 
--- a number that is no more than some thousand limits is itself as a signed word
-small : (n : ℕ) → n < 2 ^ 63 → to_z w64 n ≡ pos n
-small n h = to_z_pos w64 n h
+-- ---- a count
 
--- ---- a count, from the last row down
+one-more : (v : Bool) (i : ℕ) (l : List ℕ) (m : ℕ) → length l ≡ m → length (cond v (i ∷ l) l) ≡ cond v (1 + m) m
+one-more true i l m e = omega arith
+one-more false i l m e = e
 
-module _ (pool : ℕ) (s : List ℕ) (i used : ℕ) (some : 0 < i) (most : i ≤ used) where
-  pub count-in : sharer pool (stake_row_at s (i - 1)) ≡ true
-      → count (sharer pool) (rows_from stake_row_at s (i - 1) (used - (i - 1))) ≡ 1 + count (sharer pool) (rows_from stake_row_at s i (used - i))
-  unfolding count
-  count-in e = rw (rows_before stake_row_at s i used some most, e)
-
-  pub count-out : sharer pool (stake_row_at s (i - 1)) ≡ false
-      → count (sharer pool) (rows_from stake_row_at s (i - 1) (used - (i - 1))) ≡ count (sharer pool) (rows_from stake_row_at s i (used - i))
-  unfolding count
-  count-out e = rw (rows_before stake_row_at s i used some most, e)
-
-pub count_none : (pool : ℕ) (s : List ℕ) (used : ℕ) → count (sharer pool) (rows_from stake_row_at s used (used - used)) ≡ 0
-unfolding count
-count_none pool s used = rw (rows-done stake_row_at s used used (omega arith))
+-- of the rows from row i on that pass a test, by their indices
+pub count-rows : {A : Type 0} (f : A → Bool) (row_at : List ℕ → ℕ → A) (s : List ℕ) (i n : ℕ) → length (filter (λ k. f (row_at s k)) (range_with_len i n)) ≡ count f (rows_from row_at s i n)
+unfolding count rows_from
+count-rows f row_at s i zero = refl
+count-rows f row_at s i (suc n) = one-more (f (row_at s i)) i _ _ (count-rows f row_at s (i + 1) n ∙ ap (λ (k : ℕ). count f (rows_from row_at s k n)) (add-one i))
 
 count_most : {A : Type 0} (f : A → Bool) (l : List A) → count f l ≤ length l
 unfolding count
 count_most f [] = omega arith
-count_most f (x ∷ l) = go (f x) (count_most f l)
-  where
-    go : (v : Bool) → count f l ≤ length l → cond v (1 + count f l) (count f l) ≤ suc (length l)
-    go true h = omega arith
-    go false h = omega arith
+count_most f (x ∷ l) = cases (f x) (1 + count f l) (count f l) (λ n. n ≤ suc (length l)) (λ e. omega (arith, count_most f l)) (λ e. omega (arith, count_most f l))
 
 -- ---- on good tables
 
@@ -91,7 +81,7 @@ module _ (t : Tables) (g : good_tables t ≡ true) where
   count-told pool used n e f =
       let c : n ≡ count (sharer pool) (books_of t).stakes = f ∙ ap (λ (m : ℕ). count (sharer pool) (rows_from stake_row_at t.stakes 0 m)) e ∙ ap (count (sharer pool)) (sym (stakes-are t)) in
       let r = (good-formed t g).stake-room in
-      ap (λ (z : ℤ). told z (pos 0)) (small n (omega (arith, c, count_most (sharer pool) (books_of t).stakes, r.lent, r.enough)) ∙ ap pos c)
+      ap (λ (z : ℤ). told z (pos 0)) (to_z_pos w64 n (omega (arith, c, count_most (sharer pool) (books_of t).stakes, r.lent, r.enough)) ∙ ap pos c)
 
   -- an offer's figures
   module _ (pool : ℕ) (offer : Offer) (word : offer.0 < two_to64) (row : OfferLine) (e : offer_of row ≡ offer_for pool offer t.offers) where
@@ -110,37 +100,33 @@ module _ (t : Tables) (g : good_tables t ≡ true) where
     pub offer-told : told (to_z w64 row.reserved) (pos row.paid) ≡ told (pos (offer_at (books_of t) pool offer).reserved) (pos (offer_at (books_of t) pool offer).paid)
     offer-told =
         let o = old-offer (books_of t) (good-formed t g).offer-rows pool offer word in
-        ap₂ (λ (z : ℤ) (n : ℕ). told z (pos n)) (small row.reserved (omega (arith, reserved-is, o.most)) ∙ ap pos reserved-is) paid-is
+        ap₂ (λ (z : ℤ) (n : ℕ). told z (pos n)) (to_z_pos w64 row.reserved (omega (arith, reserved-is, o.most)) ∙ ap pos reserved-is) paid-is
 
-  -- a row that is read, and the rate that it earns at
-  pub record Earning (pool : ℕ) (account : Account) : Type 0 where
-    pub row : Stake
-    pub found : stake_of row ≡ stake_for pool account t.stakes
-    pub flat-rate : ℕ
-    pub of_books : flat-rate ≡ get_or t.books rate_word 0
-    pub rate : ℕ
-    pub of-pool : rate ≡ yield_rate flat-rate pool
+  -- what a row that is read shows as accrued, at the rate that it earns at
+  module _ (time pool : ℕ) (account : Account) (row : Stake) (found : stake_of row ≡ stake_for pool account t.stakes)
+      (flat rate : ℕ) (of_books : flat ≡ get_or t.books rate_word 0) (of_pool : rate ≡ yield_rate flat pool) where
+    row_of : stake_of row ≡ stake_at (books_of t) pool account
+    row_of = found ∙ stake-is t pool account
 
-  -- what it shows as accrued
-  module _ (time pool : ℕ) (account : Account) (x : Earning pool account) where
-    row_of : stake_of x.row ≡ stake_at (books_of t) pool account
-    row_of = x.found ∙ stake-is t pool account
-
-    pub summable : account.0 < two_to64 → time ≤ last_time → (x.rate ≤ greatest_rate) × (time ≤ last_time) × (x.row.accrual ≤ limit)
+    pub summable : account.0 < two_to64 → time ≤ last_time → (rate ≤ greatest_rate) × (time ≤ last_time) × (row.accrual ≤ limit)
     summable word h =
         let accrued = ap (λ (r : StakeRow). r.accrual) row_of in
-        (omega (arith, x.of-pool, rate-most x.flat-rate pool (omega (arith, x.of_books, rate-is t, (good-formed t g).rate-most))), h, omega (arith, accrued, (old-stake (books_of t) (good-formed t g) pool account word).accrued))
+        (omega (arith, of_pool, rate-most flat pool (omega (arith, of_books, rate-is t, (good-formed t g).rate-most))), h, omega (arith, accrued, (old-stake (books_of t) (good-formed t g) pool account word).accrued))
 
     abbrev shown : ℤ
     shown = let r = stake_at (books_of t) pool account in accrued_sum (yield_rate (books_of t).settings.rate pool) time r.stake r.since r.accrual
 
-    -- what is told of it: the sum where it is within its limits
-    module _ (a : Accrued) (h : a ≡ accrued_answer (accrued_sum x.rate time (to_z w64 x.row.stake) x.row.since x.row.accrual)) where
-      answer-is : a ≡ accrued_answer shown
-      answer-is = h ∙ ap₂ (λ (n : ℕ) (r : StakeRow). accrued_answer (accrued_sum n time r.stake r.since r.accrual)) (x.of-pool ∙ ap (λ (n : ℕ). yield_rate n pool) (x.of_books ∙ rate-is t)) row_of
+    module _ (sum : Result ℕ Refusal) (is : sum ≡ accrued_answer (accrued_sum rate time (to_z w64 row.stake) row.since row.accrual)) where
+      sum-is : sum ≡ accrued_answer shown
+      sum-is = is ∙ ap₂ (λ (n : ℕ) (r : StakeRow). accrued_answer (accrued_sum n time r.stake r.since r.accrual)) (of_pool ∙ ap (λ (n : ℕ). yield_rate n pool) (of_books ∙ rate-is t)) row_of
 
-      pub accrued-told : (n : ℕ) → a ≡ Sum n → told (to_z w64 n) (pos 0) ≡ cond (leb (nat_abs shown) limit) (told shown (pos 0)) (refusal OverLimit)
-      accrued-told n f = let p = sum-read shown n (sym f ∙ answer-is) in rw (p.0, p.1)
+      -- what is told of it: the sum where it is within its limits
+      pub accrued-told : (n : ℕ) → sum ≡ Ok n → told (to_z w64 n) (pos 0) ≡ cond (leb (nat_abs shown) limit) (told shown (pos 0)) (refusal OverLimit)
+      accrued-told n e = let p = sum-read shown n (sym e ∙ sum-is) in rw (p.0, p.1)
 
-      pub accrued-over : a ≡ Beyond → refusal OverLimit ≡ cond (leb (nat_abs shown) limit) (told shown (pos 0)) (refusal OverLimit)
-      accrued-over f = rw (beyond-read shown (sym f ∙ answer-is))
+      pub accrued-over : (r : Refusal) → sum ≡ Err r → refusal (code_of r) ≡ cond (leb (nat_abs shown) limit) (told shown (pos 0)) (refusal OverLimit)
+      accrued-over r e = go (leb (nat_abs shown) limit) (sym e ∙ sum-is)
+        where
+          go : (within : Bool) → Err r ≡ cond within (Ok (of_z w64 shown)) (Err reason.OverLimit) → refusal (code_of r) ≡ cond within (told shown (pos 0)) (refusal OverLimit)
+          go true q = absurd (let k : ◌≡◌ {A = ℕ} 0 1 = cc in omega arith)
+          go false q = let e : r ≡ reason.OverLimit = cc in ap (λ (y : Refusal). refusal (code_of y)) e

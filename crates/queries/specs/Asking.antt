@@ -2,7 +2,7 @@
 use Rattle.std.specs.Prelude.{Bool, true, cond, ◌&&◌, [], ◌∷◌, ℕ, eqb, get_or}
 use Rattle.rules.specs.Books.{Books}
 use Rattle.rules.specs.Calls.{account_no, offer_no}
-use Rattle.rules.specs.declared.Answer.{Answer}
+use Rattle.rules.specs.Answers.{Answer}
 use Rattle.rules.specs.Answers.{refusal, Malformed}
 use Rattle.rules.specs.Queries.{get_stake, accrued_yield, get_pool, get_stakers_count, get_offer}
 

@@ -1,2 +1,3 @@
 -- What the contracts of private functions cite: no reader needs to believe it.
 pub mod Gate
+pub mod Question

@@ -1,6 +1,8 @@
 -- The log that a run has come through: each turn goes on from the last.
 use mathlib.Core.Path.{◌≡◌, refl, sym, ap, ap₂, ◌∙◌}
-use mathlib.Core.Bool.{Bool, true, false, cond, false≢true, true≢false}
+use mathlib.Core.Bool.{Bool, true, false, cond, false≢true}
+use Rattle.std.specs.Prelude.{Option, Some, None, Result, Ok, Err, IsErr}
+use Rattle.std.proofs.lemmas.Option.{none-some}
 use mathlib.Core.List.{List, [], ◌++◌, append-nil}
 use mathlib.Core.Logic.{◌⊎◌, inl, inr}
 use Prim.Native.Nat.{ℕ, ◌+◌, ◌*◌, ◌/◌, ◌%◌, ◌≤◌, ◌<◌}
@@ -18,8 +20,8 @@ use Rattle.history.specs.Turns.{Turned, last_turn, part_turn, turn_of}
 use Rattle.history.proofs.Parts.{words-parts}
 use Rattle.history.proofs.Bytes.{calls-parts, calls-front, records-within}
 use Rattle.history.proofs.Stops.{fits-within}
-use Rattle.replay.specs.declared.Position.{Position}
-use Rattle.replay.specs.Turns.{Took, Goes, Finished}
+use Rattle.history.specs.declared.turns.Position.{Position}
+use Rattle.replay.specs.Turns.{Took, Finished}
 
 -- whole records ran, from the tables t₀ on
 pub record Gone (t₀ : Tables) (number : ℕ) (t : Tables) : Type 0 where
@@ -31,9 +33,17 @@ pub gone-none : (t : Tables) → Gone t 0 t
 unfolding calls_of calls_from run_words
 gone-none t = record { log = []; counted = refl; words = refl }
 
+place_or : Position → Option Position → Position
+place_or q (Some p) = p
+place_or q None = q
+
+pub same-place : {p q : Position} → Some p ≡ Some q → p ≡ q
+unfolding place_or
+same-place {p} e = ap (place_or p) e
+
 -- a run that failed there
-pub gone-failed : (t₀ : Tables) (number : ℕ) (t : Tables) (text : List ℕ) → Gone t₀ number t → Finished t₀ t text false
-gone-failed t₀ number t text h = record { log = h.log; words = h.words; ending = λ e. absurd (false≢true e) }
+pub gone-failed : {E : Type 0} (t₀ : Tables) (number : ℕ) (t : Tables) (text : List ℕ) (e : E) → Gone t₀ number t → Finished t₀ t text (Err e)
+gone-failed t₀ number t text e h = record { log = h.log; words = h.words; ending = tt }
 
 module _ (t₀ : Tables) (number : ℕ) (t : Tables) (h : Gone t₀ number t) where
   -- a part behind them
@@ -55,7 +65,7 @@ module _ (t₀ : Tables) (number : ℕ) (t : Tables) (h : Gone t₀ number t) wh
 
   module _ (bytes : List ℕ) (there : ℕ) (within : there ≤ length bytes) (room : List ℕ) where
     -- bytes that are no whole record are left over
-    finished-last : there < record_bytes → Finished t₀ t (last_turn t bytes there room number).text true
+    finished-last : {E : Type 0} → there < record_bytes → Finished {E = E} t₀ t (last_turn t bytes there room number).text (Ok tt)
     unfolding calls_of calls_from
     finished-last short =
         let over = take there bytes in
@@ -70,39 +80,37 @@ module _ (t₀ : Tables) (number : ℕ) (t : Tables) (h : Gone t₀ number t) wh
           words =
               h.words
               ∙ ap (run_words t₀) (sym (append-nil (calls_of h.log)) ∙ ap (λ (k : ℕ). calls_of h.log ++ calls_from k over 0) (sym none) ∙ sym (calls-parts h.log over number h.counted));
-          ending = λ _. rw (records, left) (take-append_seam last (drop (0 + length last) room));
+          ending = rw (records, left) (take-append_seam last (drop (0 + length last) room));
         }
 
     -- a turn that is the last, and one that is not
-    turn-finished : (r : Turned) → r ≡ turn_of t bytes there room number → r.turn.going ≡ false → Finished t₀ r.tables r.text true
+    turn-finished : {E : Type 0} (r : Turned) → r ≡ turn_of t bytes there room number → r.turn.next ≡ None → Finished {E = E} t₀ r.tables r.text (Ok tt)
     unfolding turn_of
-    turn-finished r e stop = go (ltb there record_bytes) refl e
+    turn-finished {E = E} r e stop = go (ltb there record_bytes) refl e
       where
-        go : (b : Bool) → ltb there record_bytes ≡ b → r ≡ cond b (last_turn t bytes there room number) (part_turn t bytes there room number) → Finished t₀ r.tables r.text true
+        go : (b : Bool) → ltb there record_bytes ≡ b → r ≡ cond b (last_turn t bytes there room number) (part_turn t bytes there room number) → Finished {E = E} t₀ r.tables r.text (Ok tt)
         go true short e = rw e (finished-last (ltb-true there record_bytes short))
-        go false short e = absurd (true≢false (sym (ap (λ (x : Turned). x.turn.going) e) ∙ stop))
+        go false short e = absurd (none-some _ (sym stop ∙ ap (λ (x : Turned). x.turn.next) e))
 
-    turn-gone : (r : Turned) → r ≡ turn_of t bytes there room number → r.turn.going ≡ true → Gone t₀ r.turn.number r.tables
+    turn-gone : (r : Turned) (p : Position) → r ≡ turn_of t bytes there room number → r.turn.next ≡ Some p → Gone t₀ p.number r.tables
     unfolding turn_of
-    turn-gone r e on = go (ltb there record_bytes) e
+    turn-gone r p e on = go (ltb there record_bytes) e
       where
-        go : (b : Bool) → r ≡ cond b (last_turn t bytes there room number) (part_turn t bytes there room number) → Gone t₀ r.turn.number r.tables
-        go true e = absurd (false≢true (sym (ap (λ (x : Turned). x.turn.going) e) ∙ on))
-        go false e = rw e (gone-more (take there bytes) room)
+        go : (b : Bool) → r ≡ cond b (last_turn t bytes there room number) (part_turn t bytes there room number) → Gone t₀ p.number r.tables
+        go true e = absurd (none-some p (sym (ap (λ (x : Turned). x.turn.next) e) ∙ on))
+        go false e = rw (same-place (sym on ∙ ap (λ (x : Turned). x.turn.next) e), e) (gone-more (take there bytes) room)
 
 -- ---- the program's turns
 
 module _ (t₀ t : Tables) (bytes text : List ℕ) (number there : ℕ) (t₁ : Tables) (bytes₁ text₁ : List ℕ) (h : Gone t₀ number t) where
-  pub goes-gone : (p : Position) → Goes t bytes text number there t₁ bytes₁ text₁ p → Gone t₀ p.number t₁
-  goes-gone p g =
-      let k = g.took in
-      rw g.numbered (turn-gone t₀ number t h k.came k.count k.grown.most text _ k.is k.goes)
+  pub took-gone : (p : Position) → Took t bytes text number there t₁ bytes₁ text₁ (Some p) → Gone t₀ p.number t₁
+  took-gone p k = turn-gone t₀ number t h k.came k.count k.grown.most text _ p k.is k.goes
 
-  pub took-finished : Took t bytes text number there t₁ bytes₁ text₁ false → Finished t₀ t₁ text₁ true
+  pub took-finished : {E : Type 0} → Took t bytes text number there t₁ bytes₁ text₁ None → Finished {E = E} t₀ t₁ text₁ (Ok tt)
   took-finished k = turn-finished t₀ number t h k.came k.count k.grown.most text _ k.is k.goes
 
-  pub failed-finished : (t₁ ≡ t) ⊎ (Took t bytes text number there t₁ bytes₁ text₁ true ⊎ Took t bytes text number there t₁ bytes₁ text₁ false) → Finished t₀ t₁ text₁ false
-  failed-finished (inl e) = rw e (gone-failed t₀ number t text₁ h)
-  failed-finished (inr (inl k)) =
-      gone-failed t₀ k.done.number t₁ text₁ (turn-gone t₀ number t h k.came k.count k.grown.most text _ k.is k.goes)
-  failed-finished (inr (inr k)) = let f = took-finished k in record { log = f.log; words = f.words; ending = λ e. absurd (false≢true e) }
+  pub failed-finished : {E : Type 0} → (t₁ ≡ t) ⊎ ((next : Option Position) × Took t bytes text number there t₁ bytes₁ text₁ next) → (r : Result Unit E) → IsErr r → Finished t₀ t₁ text₁ r
+  failed-finished why (Ok x) f = absurd (false≢true f)
+  failed-finished (inl same) (Err x) f = rw same (gone-failed t₀ number t text₁ x h)
+  failed-finished (inr (Some p, k)) (Err x) f = gone-failed t₀ p.number t₁ text₁ x (took-gone p k)
+  failed-finished {E = E} (inr (None, k)) (Err x) f = let g : Finished {E = E} t₀ t₁ text₁ (Ok tt) = took-finished k in record { log = g.log; words = g.words; ending = tt }

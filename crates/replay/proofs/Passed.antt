@@ -1,6 +1,6 @@
 -- The log that a run has come through, where its bytes are known: they are those that it took from the reader, and what they print is printed.
-use Rattle.std.proofs.Common.{◌≡◌, refl, sym, ap, ap₂, subst, ◌∙◌, Bool, true, false, cond, Option, List, [], ◌++◌, ℕ, ◌+◌, ◌-◌, ◌*◌, ◌/◌, ◌%◌, ◌≤◌, ◌<◌, length, take, drop, arith}
-use mathlib.Core.Bool.{false≢true, true≢false}
+use Rattle.std.proofs.Common.{◌≡◌, refl, sym, ap, ap₂, subst, ◌∙◌, Bool, true, false, cond, Option, Some, None, List, [], ◌++◌, ℕ, ◌+◌, ◌-◌, ◌*◌, ◌/◌, ◌%◌, ◌≤◌, ◌<◌, length, take, drop, arith}
+use Rattle.std.proofs.lemmas.Option.{none-some}
 use mathlib.Core.List.{append-nil, append_assoc}
 use borrow.Author.Tests.{ltb-true}
 use lib.Dec.{ltb}
@@ -19,9 +19,10 @@ use Rattle.history.specs.Turns.{Turned, turned, last_turn, part_turn, turn_of}
 use Rattle.history.proofs.Parts.{words-parts, texts-parts}
 use Rattle.history.proofs.Bytes.{calls-parts, calls-front, calls_count, records-within}
 use Rattle.history.proofs.Stops.{fits-within}
-use Rattle.replay.specs.declared.Position.{Position}
+use Rattle.history.specs.declared.turns.Position.{Position}
 use Rattle.replay.specs.Buffers.{Grown}
-use Rattle.replay.specs.Telling.{Told, Went, Ran}
+use Rattle.replay.specs.Telling.{Told, Ran}
+use Rattle.replay.proofs.Logs.{same-place}
 
 -- whole records ran, from the tables t₀ on, and `rest` is read and not yet run
 pub record Passed (t₀ : Tables) (known₀ out₀ : Option (List ℕ)) (number : ℕ) (t : Tables) (rest : List ℕ) (known out : Option (List ℕ)) : Type 0 where
@@ -69,9 +70,9 @@ module _ (t₀ : Tables) (known₀ out₀ : Option (List ℕ)) (number : ℕ) (t
       take_at (take m (drop taken bytes)) (drop m bytes) m long ∙ sym (drop-take taken m bytes) ∙ ap (λ (k : ℕ). drop taken (take k bytes)) whole
 
   -- a part in which records ran
-  passed-part : (r : Turned) → r ≡ part_turn t bytes count room number → Appends out out₁ (take r.turn.printed r.text) → Passed t₀ known₀ out₀ r.turn.number r.tables (take r.turn.left r.bytes) left out₁
+  passed-part : (r : Turned) (p : Position) → r ≡ part_turn t bytes count room number → r.turn.next ≡ Some p → Appends out out₁ (take r.turn.printed r.text) → Passed t₀ known₀ out₀ p.number r.tables (take p.there r.bytes) left out₁
   unfolding replayed
-  passed-part r e told =
+  passed-part r p e on told =
       let part = take count bytes in
       let n : ℕ = fitting (length room) t number (calls_of part) in
       let fits : n ≤ length (calls_of part) = fits-within (length room) t number (calls_of part) in
@@ -81,7 +82,7 @@ module _ (t₀ : Tables) (known₀ out₀ : Option (List ℕ)) (number : ℕ) (t
       let text = texts_of t number (take n (calls_of part)) in
       let shown : take (length text) (text ++ drop (0 + length text) room) ≡ text = take-append_seam text (drop (0 + length text) room) in
       let told' : Appends out out₁ text = subst (Appends out out₁) (ap (λ (x : Turned). take x.turn.printed x.text) e ∙ shown) told in
-      rw e (record {
+      rw (same-place (sym on ∙ ap (λ (x : Turned). x.turn.next) e), e) (record {
         log = log ++ front;
         counted = length-append log front ∙ omega (arith, counted, long);
         words = ap (run_words t) ran ∙ words-behind front;
@@ -135,7 +136,7 @@ came-parts before there came count g =
 module _ (t₀ : Tables) (known₀ out₀ : Option (List ℕ)) (number : ℕ) (t : Tables) (bytes text : List ℕ) (there : ℕ) (t₁ : Tables) (bytes₁ text₁ : List ℕ) (known left out out₁ : Option (List ℕ))
     (h : Passed t₀ known₀ out₀ number t (take there bytes) known out) where
   -- all that was read, with what this turn read
-  read : {going : Bool} (k : Told t bytes text number there t₁ bytes₁ text₁ known left out out₁ going) → Consumes known₀ left (h.log ++ take k.took.count k.took.came)
+  read : {next : Option Position} (k : Told t bytes text number there t₁ bytes₁ text₁ known left out out₁ next) → Consumes known₀ left (h.log ++ take k.took.count k.took.came)
   read k =
       let front = take there bytes in
       let back = drop there (take k.took.count k.took.came) in
@@ -144,18 +145,18 @@ module _ (t₀ : Tables) (known₀ out₀ : Option (List ℕ)) (number : ℕ) (t
       (append_assoc h.log front back ∙ ap (λ (s : List ℕ). h.log ++ s) (came-parts bytes there k.took.came k.took.count k.took.grown))
       (Consumes-trans known₀ known left (h.log ++ front) back h.came k.came)
 
-  pub passed-on : (p : Position) → Went t bytes text number there t₁ bytes₁ text₁ known left out out₁ p → Passed t₀ known₀ out₀ p.number t₁ (take p.there bytes₁) left out₁
+  pub passed-on : (p : Position) → Told t bytes text number there t₁ bytes₁ text₁ known left out out₁ (Some p) → Passed t₀ known₀ out₀ p.number t₁ (take p.there bytes₁) left out₁
   unfolding turn_of
-  passed-on p w = go (ltb w.told.took.count record_bytes) w.told.took.is
+  passed-on p w = go (ltb w.took.count record_bytes) w.took.is
     where
-      go : (b : Bool) → turned w.told.took.done t₁ bytes₁ text₁ ≡ cond b (last_turn t w.told.took.came w.told.took.count text number) (part_turn t w.told.took.came w.told.took.count text number)
+      go : (b : Bool) → turned w.took.done t₁ bytes₁ text₁ ≡ cond b (last_turn t w.took.came w.took.count text number) (part_turn t w.took.came w.took.count text number)
           → Passed t₀ known₀ out₀ p.number t₁ (take p.there bytes₁) left out₁
-      go true e = absurd (false≢true (sym (ap (λ (x : Turned). x.turn.going) e) ∙ w.told.took.goes))
+      go true e = absurd (none-some p (sym (ap (λ (x : Turned). x.turn.next) e) ∙ w.took.goes))
       go false e =
-          let k = w.told.took in
-          rw (w.numbered, w.rest) (passed-part t₀ known₀ out₀ number t h.log h.counted h.words k.came k.count k.grown.most text left out out₁ (read w.told) h.printed _ e w.told.printed)
+          let k = w.took in
+          passed-part t₀ known₀ out₀ number t h.log h.counted h.words k.came k.count k.grown.most text left out out₁ (read w) h.printed _ p e k.goes w.printed
 
-  pub told-ran : Told t bytes text number there t₁ bytes₁ text₁ known left out out₁ false → Ran t₀ t₁ known₀ left out₀ out₁
+  pub told-ran : Told t bytes text number there t₁ bytes₁ text₁ known left out out₁ None → Ran t₀ t₁ known₀ left out₀ out₁
   unfolding turn_of
   told-ran w = go (ltb w.took.count record_bytes) refl w.took.is
     where
@@ -164,4 +165,4 @@ module _ (t₀ : Tables) (known₀ out₀ : Option (List ℕ)) (number : ℕ) (t
           let k = w.took in
           let less = ltb-true k.count record_bytes short in
           ran-last t₀ known₀ out₀ number t h.log h.counted h.words k.came k.count k.grown.most text left out out₁ (read w) h.printed less (w.all less) _ e w.printed
-      go false short e = absurd (true≢false (sym (ap (λ (x : Turned). x.turn.going) e) ∙ w.took.goes))
+      go false short e = absurd (none-some _ (sym w.took.goes ∙ ap (λ (x : Turned). x.turn.next) e))

@@ -1,9 +1,10 @@
 -- One turn of a search by halving: what it keeps, and that it leaves fewer rows.
+use Rattle.std.proofs.Common.{Ok, Err}
 use mathlib.Core.Path.{◌≡◌, refl, sym, ap, subst}
 use mathlib.Core.Bool.{Bool, true, false, not}
 use mathlib.Core.Logic.{⊎_elim, ◌≢◌}
 use mathlib.Core.List.{List}
-use Prim.Native.Nat.{ℕ, ◌+◌, ◌/◌, ◌≤◌, ◌<◌}
+use Prim.Native.Nat.{ℕ, ◌+◌, ◌-◌, ◌/◌, ◌≤◌, ◌<◌}
 use native.Mathlib.Nat.{mul-le-mul_right, div-mul-le_self}
 use native.Mathlib.Omega.{arith}
 use lib.Dec.{ltb, eqb}
@@ -12,10 +13,19 @@ use borrow.Author.Tests.{ltb-true, ltb-false, eqb-true, eqb-false}
 use Rattle.rows.specs.Rows.{number_word, word, key_at, Sorted}
 use Rattle.rows.specs.inner.Order.{Used, Packed}
 use Rattle.rows.specs.Lookup.{place_of}
-use Rattle.rows.specs.inner.Halves.{half_of}
-use Rattle.rows.specs.declared.search.Span.{Span}
-use Rattle.rows.specs.declared.Place.TheVariants.{At, Gap}
 use Rattle.rows.proofs.Order.{le-cases, lt-or-le, place-gap, place_at}
+
+-- the rows in question, from row `low` on, and whether the row just behind them has the key
+pub record Span : Type 0 where
+  pub low : ℕ
+  pub rows : ℕ
+  pub found : Bool
+
+-- what is left of a span once its middle row is read: the rows after it, with the same row behind them, or those before it, with the middle row
+-- behind them, of which `found` says whether it has the key
+abbrev pub half_of : Span → Bool → Bool → Span
+half_of at true found = record { low = at.low + at.rows / 2 + 1; rows = at.rows - at.rows / 2 - 1; found = at.found }
+half_of at false found = record { low = at.low; rows = at.rows / 2; found = found }
 
 -- a turn leaves at most half of the rows, so that there are at most as many turns as the number of rows has binary digits
 pub half-rows : (at : Span) (after found : Bool) → 0 < at.rows → (half_of at after found).rows ≤ at.rows / 2
@@ -69,12 +79,12 @@ module _ (s : List ℕ) (w n k : ℕ) where
       behind-low : (f : Bool) → at.found ≡ f → Behind s w n k at.low f
       behind-low f e = subst (λ (i : ℕ). Behind s w n k i f) (omega arith) (subst (Behind s w n k (at.low + at.rows)) e b.behind)
 
-      pub holds_at : at.found ≡ true → At at.low ≡ place_of s w n k
+      pub holds_at : at.found ≡ true → Ok at.low ≡ place_of s w n k
       holds_at e =
           let h = behind-low true e in
           sym (place_at s w k n at.low h.0 h.1 (λ j p q. omega (arith, o at.low j p q, h.1)))
 
-      pub holds-gap : at.found ≡ false → Gap at.low ≡ place_of s w n k
+      pub holds-gap : at.found ≡ false → Err at.low ≡ place_of s w n k
       holds-gap e = sym (place-gap s w k n at.low (record { lo-le = omega arith; hi-le = omega arith; below = b.below; above = behind-low false e }))
 
 -- a span that holds the number of used rows

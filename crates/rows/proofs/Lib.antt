@@ -1,6 +1,5 @@
 pub mod Order
 pub mod Halves
-pub mod Words
 pub mod Table
 pub mod Zeros
 pub mod RowsRead

@@ -1,4 +1,5 @@
 -- Keys compared as numbers, and the place of a key in a sorted table.
+use Rattle.std.proofs.Common.{Result, Ok, Err}
 use mathlib.Core.Path.{◌≡◌, refl, sym, ap, ◌∙◌, subst, subst⁻¹}
 use mathlib.Core.Bool.{Bool, true, false, ◌&&◌}
 use mathlib.Core.Logic.{◌⊎◌, inl, inr, ⊎_elim, ◌↔◌}
@@ -10,8 +11,6 @@ use lib.Dec.{ltb, eqb}
 use borrow.Author.Tests.{lt-ltb, le-ltb, eq-eqb, ne_eqb, ltb-true, ltb-false, eqb-true, eqb-false}
 use Rattle.rows.specs.Rows.{key_of, key_at, Sorted}
 use Rattle.rows.specs.Lookup.{place_of}
-use Rattle.rows.specs.declared.Place.{Place}
-use Rattle.rows.specs.declared.Place.TheVariants.{At, Gap}
 
 -- a row below row n, with all its words, lies within the words of the first n rows: the one fact on products that a read of a row needs
 pub row_in : (w : ℕ) {i n l : ℕ} → i < n → n * w ≤ l → i * w + w ≤ l
@@ -83,29 +82,29 @@ pub bracket-start : {s : List ℕ} {w n k : ℕ} → Bracket s w n k 0 n
 bracket-start = record { lo-le = omega arith; hi-le = omega arith; below = λ j l. absurd (omega arith); above = λ j l q. absurd (omega arith) }
 
 module _ (s : List ℕ) (w k : ℕ) where
-  place-low : (n : ℕ) → key_at s w n < k → place_of s w (suc n) k ≡ Gap (suc n)
+  place-low : (n : ℕ) → key_at s w n < k → place_of s w (suc n) k ≡ Err (suc n)
   place-low n h = simp (ne_eqb (key_at s w n) k (λ e. omega arith), lt-ltb (key_at s w n) k h)
 
   place-high : (n : ℕ) → k < key_at s w n → place_of s w (suc n) k ≡ place_of s w n k
   place-high n h = simp (ne_eqb (key_at s w n) k (λ e. omega arith), le-ltb (key_at s w n) k (omega arith))
 
-  place-eq : (n : ℕ) → key_at s w n ≡ k → place_of s w (suc n) k ≡ At n
+  place-eq : (n : ℕ) → key_at s w n ≡ k → place_of s w (suc n) k ≡ Ok n
   place-eq n h = simp (eq-eqb (key_at s w n) k h)
 
   -- where lo and hi meet is the gap
-  pub place-gap : (n i : ℕ) → Bracket s w n k i i → place_of s w n k ≡ Gap i
-  place-gap zero i b = ap Gap (omega (arith, b.hi-le))
-  place-gap (suc n) i b = ⊎_elim (λ e. place-low n (b.below n (omega arith)) ∙ ap Gap (omega arith)) (λ l. place-high n (b.above n (omega arith) (omega arith)) ∙ place-gap n i (record { lo-le = omega arith; hi-le = omega arith; below = b.below; above = λ j p q. b.above j p (omega arith) })) (eq-or-lt_of_le b.hi-le)
+  pub place-gap : (n i : ℕ) → Bracket s w n k i i → place_of s w n k ≡ Err i
+  place-gap zero i b = ap Err (omega (arith, b.hi-le))
+  place-gap (suc n) i b = ⊎_elim (λ e. place-low n (b.below n (omega arith)) ∙ ap Err (omega arith)) (λ l. place-high n (b.above n (omega arith) (omega arith)) ∙ place-gap n i (record { lo-le = omega arith; hi-le = omega arith; below = b.below; above = λ j p q. b.above j p (omega arith) })) (eq-or-lt_of_le b.hi-le)
 
   -- a row with the key, below rows with larger keys, is the place
-  pub place_at : (n i : ℕ) → i < n → key_at s w i ≡ k → ((j : ℕ) → i < j → j < n → k < key_at s w j) → place_of s w n k ≡ At i
+  pub place_at : (n i : ℕ) → i < n → key_at s w i ≡ k → ((j : ℕ) → i < j → j < n → k < key_at s w j) → place_of s w n k ≡ Ok i
   place_at zero i h e a = absurd (omega arith)
-  place_at (suc n) i h e a = ⊎_elim (λ q. place-eq n (ap (key_at s w) (omega arith) ∙ e) ∙ ap At (omega arith)) (λ l. place-high n (a n (omega arith) (omega arith)) ∙ place_at n i (omega arith) e (λ j p q. a j p (omega arith))) (eq-or-lt_of_le h)
+  place_at (suc n) i h e a = ⊎_elim (λ q. place-eq n (ap (key_at s w) (omega arith) ∙ e) ∙ ap Ok (omega arith)) (λ l. place-high n (a n (omega arith) (omega arith)) ∙ place_at n i (omega arith) e (λ j p q. a j p (omega arith))) (eq-or-lt_of_le h)
 
 -- what a place says
-abbrev pub Placed : List ℕ → ℕ → ℕ → ℕ → Place → Type 0
-Placed s w n k (At i) = (i < n) × (key_at s w i ≡ k)
-Placed s w n k (Gap i) = Bracket s w n k i i
+abbrev pub Placed : List ℕ → ℕ → ℕ → ℕ → Result ℕ ℕ → Type 0
+Placed s w n k (Ok i) = (i < n) × (key_at s w i ≡ k)
+Placed s w n k (Err i) = Bracket s w n k i i
 
 -- the place of a key in a sorted table says where its row is, or that there is none and where it would be: what a caller of `place_of` cites
 pub placed : (s : List ℕ) (w n k : ℕ) → Sorted s w n → Placed s w n k (place_of s w n k)
@@ -123,9 +122,9 @@ placed s w (suc n) k o = ⊎_elim low (λ l. ⊎_elim (λ e. same (sym e)) (high
     same : key_at s w n ≡ k → Placed s w (suc n) k (place_of s w (suc n) k)
     same h = subst⁻¹ (Placed s w (suc n) k) (place-eq s w k n h) (omega arith, h)
 
-    more : k < key_at s w n → (p : Place) → Placed s w n k p → Placed s w (suc n) k p
-    more h (At i) q = (omega (arith, q.0), q.1)
-    more h (Gap i) q = record {
+    more : k < key_at s w n → (p : Result ℕ ℕ) → Placed s w n k p → Placed s w (suc n) k p
+    more h (Ok i) q = (omega (arith, q.0), q.1)
+    more h (Err i) q = record {
       lo-le = omega arith;
       hi-le = omega (arith, q.hi-le);
       below = q.below;
@@ -136,8 +135,8 @@ placed s w (suc n) k o = ⊎_elim low (λ l. ⊎_elim (λ e. same (sym e)) (high
     high r h = subst⁻¹ (Placed s w (suc n) k) (place-high s w k n h) (more h (place_of s w n k) r)
 
 -- the two cases by themselves, as an arm of a match on what `place_of` returned has them
-pub found_at : (s : List ℕ) (w n k i : ℕ) → Sorted s w n → place_of s w n k ≡ At i → (i < n) × (key_at s w i ≡ k)
+pub found_at : (s : List ℕ) (w n k i : ℕ) → Sorted s w n → place_of s w n k ≡ Ok i → (i < n) × (key_at s w i ≡ k)
 found_at s w n k i o e = subst (Placed s w n k) e (placed s w n k o)
 
-pub found-gap : (s : List ℕ) (w n k i : ℕ) → Sorted s w n → place_of s w n k ≡ Gap i → Bracket s w n k i i
+pub found-gap : (s : List ℕ) (w n k i : ℕ) → Sorted s w n → place_of s w n k ≡ Err i → Bracket s w n k i i
 found-gap s w n k i o e = subst (Placed s w n k) e (placed s w n k o)

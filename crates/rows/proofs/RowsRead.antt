@@ -13,10 +13,8 @@ use borrow.Author.Tests.{ltb-true}
 use Rattle.rows.specs.Rows.{key_at, Sorted}
 use Rattle.rows.specs.Lookup.{place_of, read_in, read_from, rows_read, digits_in, digits}
 use Rattle.rows.specs.LookupShown.{LookupShown, LookupFigures, numbered}
-use Rattle.rows.specs.declared.search.Span.{Span}
 use Rattle.rows.proofs.Order.{le-cases}
-use Rattle.rows.specs.inner.Halves.{half_of}
-use Rattle.rows.proofs.Halves.{Holds, half-rows, holds-start, holds-half, holds_at, holds-gap}
+use Rattle.rows.proofs.Halves.{Span, half_of, Holds, half-rows, holds-start, holds-half, holds_at, holds-gap}
 
 -- ---- binary digits
 
@@ -215,6 +213,27 @@ module _ (s : List ℕ) (w n k : ℕ) where
       counted = one_more (ltb (key_at s w mid) k) (eqb (key_at s w mid) k) refl;
       few = omega (arith, b.few, half-rows at (ltb (key_at s w mid) k) (eqb (key_at s w mid) k) h);
     }
+
+  -- the same with the end of the span in place of its length, as the loop has it
+  module _ (o : Sorted s w n) (low high reads : ℕ) (f : Bool) (h : low < high) (b : Reading s w n k (record { low = low; rows = high - low; found = f }) reads) where
+    abbrev middle : ℕ
+    middle = low + (high - low) / 2
+
+    turn : Reading s w n k (half_of (record { low = low; rows = high - low; found = f }) (ltb (key_at s w middle) k) (eqb (key_at s w middle) k)) (reads + 1)
+    turn = reading-half o (record { low = low; rows = high - low; found = f }) reads (omega arith) b
+
+    pub reading-up : ltb (key_at s w middle) k ≡ true → Reading s w n k (record { low = middle + 1; rows = high - (middle + 1); found = f }) (reads + 1)
+    reading-up e =
+        let r : high - low - (high - low) / 2 - 1 ≡ high - (middle + 1) = omega arith in
+        subst (λ (x : ℕ). Reading s w n k (record { low = middle + 1; rows = x; found = f }) (reads + 1)) r
+        (subst (λ (t : Bool). Reading s w n k (half_of (record { low = low; rows = high - low; found = f }) t (eqb (key_at s w middle) k)) (reads + 1)) e turn)
+
+    pub reading-down : (found : Bool) → ltb (key_at s w middle) k ≡ false → eqb (key_at s w middle) k ≡ found → Reading s w n k (record { low = low; rows = middle - low; found = found }) (reads + 1)
+    reading-down found e g =
+        let r : (high - low) / 2 ≡ middle - low = omega arith in
+        subst (λ (x : ℕ). Reading s w n k (record { low = low; rows = x; found = found }) (reads + 1)) r
+        (subst (λ (t : Bool). Reading s w n k (record { low = low; rows = (high - low) / 2; found = t }) (reads + 1)) g
+        (subst (λ (t : Bool). Reading s w n k (half_of (record { low = low; rows = high - low; found = f }) t (eqb (key_at s w middle) k)) (reads + 1)) e turn))
 
   -- no row is in question: the count is whole
   pub reading-done : (at : Span) (reads : ℕ) → at.rows ≡ 0 → Reading s w n k at reads → reads ≡ length (rows_read s w n k)

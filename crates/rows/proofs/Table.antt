@@ -1,17 +1,17 @@
 -- What the code that writes a row, puts one in or takes one out makes of the words, and the number of used rows.
 use mathlib.Core.Path.{◌≡◌, sym, ap, ap₂, ◌∙◌}
 use mathlib.Core.Logic.{⊎_elim}
-use mathlib.Core.List.{List, ◌++◌}
+use mathlib.Core.List.{List, ◌++◌, append_assoc}
 use Prim.Native.Nat.{ℕ, ◌+◌, ◌-◌, ◌*◌, ◌≤◌, ◌<◌}
 use native.Mathlib.Nat.{le_refl, mul-le-mul_right, lt_of_lt_of_le, le-div_iff_mul-le}
 use native.Mathlib.Omega.{arith}
-use lib.ListN.{length, take, drop, length-append, length-drop, length-replicate, take-append-drop}
-use lib.Seq.{paste, length-take-le, drop-drop}
+use lib.ListN.{length, take, drop, length-append, length-drop}
+use lib.Seq.{paste, length-take-le, drop-drop, drop_at, take-take, take-append-le, take-paste, drop-paste}
+use borrow.Rule.Slice.PartMut.{put_mid}
 use Rattle.rows.specs.Rows.{zeros, number_word}
 use Rattle.rows.specs.inner.Order.{Blank, Used, Packed}
 use Rattle.rows.specs.inner.Moves.{closed, row_written, inserted, removed}
 use Rattle.rows.proofs.Order.{row_in, le-cases, lt-or-le}
-use Rattle.rows.proofs.Words.{put_in, put-after}
 
 -- rows i .. n - 1 after the first i rows: the one law on products that an insertion and a removal need
 pub rows_split : (w i n : ℕ) → i ≤ n → i * w + (n - i) * w ≡ n * w
@@ -38,29 +38,31 @@ written-length s w i row l e =
 
 pub inserted-made : (s : List ℕ) (w n at : ℕ) (row : List ℕ) → at ≤ n → n * w + w ≤ length s → (d : List ℕ) → d ≡ paste s (at * w + w) (drop (at * w) s) (n * w - at * w) → row_written d w at row ≡ inserted s w n at row
 inserted-made s w n at row h l d e =
-    let rs : at * w + (n - at) * w ≡ n * w = rows_split w at n h in
-    let i : n * w - at * w ≡ (n - at) * w = omega (arith, rs) in
-    let f : at * w + w + (n - at) * w ≡ n * w + w = omega (arith, rs) in
-    put_in s row (at * w) w ((n - at) * w) (omega arith) d (e ∙ ap (paste s (at * w + w) (drop (at * w) s)) i)
-    ∙ ap (λ (m : ℕ). take (at * w) s ++ (row ++ (take ((n - at) * w) (drop (at * w) s) ++ drop m s))) f
+    let a : ℕ = at * w in
+    let k : ℕ = n * w - a in
+    let m : List ℕ = take k (drop a s) ++ drop (a + w + k) s in
+    let rs : a + (n - at) * w ≡ n * w = rows_split w at n h in
+    let i : k ≡ (n - at) * w = omega arith in
+    let f : a + w + k ≡ n * w + w = omega arith in
+    let g : length (take (a + w) s) ≡ a + w = length-take-le (a + w) s (omega arith) in
+    let p : d ≡ take (a + w) s ++ m = e ∙ append_assoc (take (a + w) s) (take k (drop a s)) (drop (a + w + k) s) in
+    let q = take-append-le a (take (a + w) s) m (omega arith) in
+    let t = take-take a (a + w) s (omega arith) in
+    let r = drop_at (take (a + w) s) m (a + w) g in
+    cc
 
 -- ---- words and rows taken out
 
--- what the code of `close` makes, and where it has nothing to take
-pub closed-made : (s : List ℕ) (a b n : ℕ) → a ≤ b → b ≤ n → n ≤ length s → paste (paste s a (drop b s) (n - b)) (a + (n - b)) (zeros (b - a)) (b - a) ≡ closed s a b n
-closed-made s a b n h k l =
-    let e : a + (b - a) ≡ b = omega arith in
-    let f : a + (b - a) + (n - b) ≡ n = omega arith in
-    rw (f, e) at (put-after s (zeros (b - a)) a (b - a) (n - b) (omega arith) (length-replicate (b - a) 0))
-
-pub closed_none : (s : List ℕ) (a n : ℕ) → a ≤ n → closed s a a n ≡ s
-closed_none s a n h =
-    let e : a - a ≡ 0 = omega arith in
-    let f : a + (n - a) ≡ n = omega arith in
-    ap (λ (k : ℕ). take a s ++ (take (n - a) (drop a s) ++ (zeros k ++ drop n s))) e
-    ∙ ap (λ (l : List ℕ). take a s ++ (take (n - a) (drop a s) ++ l)) (sym (drop-drop (n - a) a s ∙ ap (λ (k : ℕ). drop k s) f))
-    ∙ ap (λ (l : List ℕ). take a s ++ l) (take-append-drop (n - a) (drop a s))
-    ∙ take-append-drop a s
+-- what the code of `close` makes, a copy and then zeros written after it
+pub closed-made : (s d z : List ℕ) (a b n : ℕ) → a ≤ b → b ≤ n → n ≤ length s → d ≡ paste s a (drop b s) (n - b) → z ≡ zeros (b - a)
+    → put_mid (a + (n - b)) (n - (a + (n - b))) d z ≡ closed s a b n
+closed-made s d z a b n h k l e f =
+    let p : n - b ≤ length (drop b s) = omega (arith, length-drop b s) in
+    let m : a + (n - b) + (n - (a + (n - b))) ≡ n = omega arith in
+    let q = take-paste s a (drop b s) (n - b) (omega arith) p in
+    let r = drop-paste s a (drop b s) (n - b) (omega arith) p in
+    let t = drop-drop (n - (a + (n - b))) (a + (n - b)) s in
+    cc (append_assoc (take a s) (take (n - b) (drop b s)) (zeros (b - a) ++ drop n s))
 
 -- a row taken out is its words taken out
 pub removed-closed : (s : List ℕ) (w n at : ℕ) → at < n → closed s (at * w) (at * w + w) (n * w) ≡ removed s w n at

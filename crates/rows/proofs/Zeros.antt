@@ -1,15 +1,17 @@
--- Words that are all 0: the test of them one by one and eight at a time, and that it tests what `Blank` says.
+-- Words that are all 0: the test by the bits of them together, and that it tests what `Blank` says.
 use mathlib.Core.Path.{◌≡◌, refl, sym, ap, ap₂, ◌∙◌}
-use mathlib.Core.Bool.{Bool, true, false, ◌&&◌, and_assoc}
+use mathlib.Core.Bool.{Bool, true, false, ◌&&◌, and_assoc, and-true}
 use mathlib.Core.List.{List, [], ◌∷◌}
-use Prim.Native.Nat.{ℕ, zero, suc, ◌+◌, ◌-◌, ◌≤◌, ◌<◌}
+use Prim.Native.Nat.{ℕ, zero, suc, ◌+◌, ◌-◌}
 use native.Mathlib.Omega.{arith}
-use native.Mathlib.Numerals.{add-one}
 use lib.Dec.{eqb}
-use lib.ListN.{length, get_or, drop, drop_of_length-le}
-use lib.Seq.{drop-cons, get_or-drop}
-use borrow.Author.Tests.{eq-eqb, eqb-true}
-use Rattle.rows.specs.inner.Order.{Blank, zero_at, two_zero, four_zero, eight_zero}
+use lib.ListN.{get_or, drop}
+use lib.Seq.{get_or-drop}
+use borrow.Author.Tests.{eq-eqb, ne_eqb, eqb-true}
+use Rattle.std.proofs.Common.{fold, bit_or}
+use Rattle.std.proofs.lemmas.Nat.{le_or_l}
+use Rattle.std.specs.Int.Bits.{or_zero_l}
+use Rattle.rows.specs.inner.Order.{Blank}
 use Rattle.rows.specs.Rows.{all_zero}
 use Rattle.rows.proofs.Order.{false-true}
 
@@ -21,29 +23,17 @@ right : (a b : Bool) → (a && b) ≡ true → b ≡ true
 right true b e = e
 right false b e = absurd (false-true e)
 
--- nothing is left
-pub zero-none : (s : List ℕ) (j : ℕ) → length s ≤ j → all_zero (drop j s) ≡ true
-zero-none s j h = ap all_zero (drop_of_length-le s h)
+-- words have no bit between them where each is 0: what `blank` tests
+or-zero : (a x : ℕ) → eqb (bit_or a x) 0 ≡ (eqb a 0 && eqb x 0)
+or-zero zero x = ap (λ (y : ℕ). eqb y 0) (or_zero_l x)
+or-zero (suc a) x = ne_eqb (bit_or (suc a) x) 0 (λ e. omega (arith, le_or_l (suc a) x)) ∙ ap (λ (t : Bool). t && eqb x 0) (sym (ne_eqb (suc a) 0 (λ e. omega arith)))
 
--- one word more, two, four, eight
-pub zero-next : (s : List ℕ) (j : ℕ) → j < length s → all_zero (drop j s) ≡ (zero_at s j && all_zero (drop (j + 1) s))
-zero-next s j h = rw (drop-cons s j 0 h, add-one)
+bits-from : (a : ℕ) (s : List ℕ) → eqb (fold bit_or a s) 0 ≡ (eqb a 0 && all_zero s)
+bits-from a [] = sym (and-true (eqb a 0))
+bits-from a (x ∷ s) = bits-from (bit_or a x) s ∙ ap (λ (t : Bool). t && all_zero s) (or-zero a x) ∙ and_assoc (eqb a 0) (eqb x 0) (all_zero s)
 
--- two parts in a row, of a words and of b
-both : (s : List ℕ) (j a b : ℕ) (p q : Bool) → all_zero (drop j s) ≡ (p && all_zero (drop (j + a) s))
-    → all_zero (drop (j + a) s) ≡ (q && all_zero (drop (j + a + b) s)) → all_zero (drop j s) ≡ (p && q && all_zero (drop (j + (a + b)) s))
-both s j a b p q e f =
-    let i : j + a + b ≡ j + (a + b) = omega arith in
-    e ∙ ap (λ (t : Bool). p && t) (f ∙ ap (λ (k : ℕ). q && all_zero (drop k s)) i) ∙ sym (and_assoc p q (all_zero (drop (j + (a + b)) s)))
-
-two : (s : List ℕ) (j : ℕ) → j + 2 ≤ length s → all_zero (drop j s) ≡ (two_zero s j && all_zero (drop (j + 2) s))
-two s j h = both s j 1 1 (zero_at s j) (zero_at s (j + 1)) (zero-next s j (omega arith)) (zero-next s (j + 1) (omega arith))
-
-four : (s : List ℕ) (j : ℕ) → j + 4 ≤ length s → all_zero (drop j s) ≡ (four_zero s j && all_zero (drop (j + 4) s))
-four s j h = both s j 2 2 (two_zero s j) (two_zero s (j + 2)) (two s j (omega arith)) (two s (j + 2) (omega arith))
-
-pub zero-eight : (s : List ℕ) (j : ℕ) → j + 8 ≤ length s → all_zero (drop j s) ≡ (eight_zero s j && all_zero (drop (j + 8) s))
-zero-eight s j h = both s j 4 4 (four_zero s j) (four_zero s (j + 4)) (four s j (omega arith)) (four s (j + 4) (omega arith))
+pub no-bits : (s : List ℕ) → eqb (fold bit_or 0 s) 0 ≡ all_zero s
+no-bits s = bits-from 0 s
 
 -- the test is true of words that are all 0, and of no others
 pub zero-blank : (s : List ℕ) (from : ℕ) → all_zero (drop from s) ≡ true → Blank s from

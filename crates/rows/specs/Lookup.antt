@@ -1,20 +1,14 @@
 -- A lookup: where a key stands in a table or would stand, and which rows are read to tell it.
-use Rattle.std.specs.Prelude.{Bool, true, false, cond, List, [], ◌∷◌, ℕ, zero, suc, ◌+◌, ◌-◌, ◌/◌, ltb, eqb, length}
+use Rattle.std.specs.Prelude.{cond, List, [], ◌∷◌, ℕ, zero, suc, ◌+◌, ◌-◌, ◌/◌, ltb, eqb, length, Result, Ok, Err}
 use Rattle.rows.specs.Rows.{key_at}
-use Rattle.rows.specs.declared.Place.{Place}
-use Rattle.rows.specs.declared.Place.TheVariants.{At, Gap}
 use Rattle.rows.specs.declared.Lookup.{Lookup}
 
-abbrev pub pick_place : Bool → Place → Place → Place
-pick_place true a b = a
-pick_place false a b = b
-
--- the place of key k in the first n rows, from the last row down: a row with that key is `At` it, a row with a smaller key
--- leaves a `Gap` just above it, and with none such the gap is at the front
-abbrev pub place_of : List ℕ → ℕ → ℕ → ℕ → Place
-place_of s w zero k = Gap 0
+-- the place of key k in the first n rows, from the last row down: a row with that key is it, `Ok`; a row with a smaller key
+-- leaves a gap just above it, `Err`, and with none such the gap is at the front
+abbrev pub place_of : List ℕ → ℕ → ℕ → ℕ → Result ℕ ℕ
+place_of s w zero k = Err 0
 place_of s w (suc n) k =
-    pick_place (eqb (key_at s w n) k) (At n) (pick_place (ltb (key_at s w n) k) (Gap (suc n)) (place_of s w n k))
+    cond (eqb (key_at s w n) k) (Ok n) (cond (ltb (key_at s w n) k) (Err (suc n)) (place_of s w n k))
 
 -- the rows read for key k among the n rows from row `low` on, in the order in which they are read: none of no rows, else the middle one, and then
 -- those of one half: of the rows after it where its key is below k, else of the rows before it. Every turn leaves fewer rows, so that n turns are enough

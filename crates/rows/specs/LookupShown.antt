@@ -1,9 +1,8 @@
 -- Request W-213 in one statement: its sentences as laws of any words, and figures.
-use Rattle.std.specs.Prelude.{◌≡◌, cond, ◌≢◌, List, [], ◌∷◌, ℕ, zero, suc, ◌+◌, ◌-◌, ◌*◌, ◌/◌, ◌^◌, ◌≤◌, ◌<◌, ltb, length, get_or}
+use Rattle.std.specs.Prelude.{◌≡◌, cond, ◌≢◌, List, [], ◌∷◌, ℕ, zero, suc, ◌+◌, ◌-◌, ◌*◌, ◌/◌, ◌^◌, ◌≤◌, ◌<◌, ltb, length, get_or, Ok, Err}
 use Rattle.rows.specs.Rows.{key_at, Sorted}
 use Rattle.rows.specs.Lookup.{place_of, read_from, rows_read, lookup, digits}
 use Rattle.rows.specs.declared.Lookup.{Lookup}
-use Rattle.rows.specs.declared.Place.TheVariants.{At, Gap}
 
 -- how many rows are read, and which of them is read after j others
 abbrev pub reads : List ℕ → ℕ → ℕ → ℕ → ℕ
@@ -27,12 +26,12 @@ lookup_among n k = lookup (numbered 1 n) 2 n k
 -- the first of 1, 2, 3, 1,023 and 1,024 rows is found by 1, 2, 2, 10 and 11 reads, as many as the number has binary digits; the place for a new row behind
 -- 1,024 by 10
 pub record LookupFigures : Type 0 where
-  pub of-1 : (read_among 1 1 ≡ (0 ∷ [])) × (lookup_among 1 1 ≡ record { place = At 0; reads = 1 }) × (digits 1 ≡ 1)
-  pub of-2 : (read_among 2 1 ≡ (1 ∷ 0 ∷ [])) × (lookup_among 2 1 ≡ record { place = At 0; reads = 2 }) × (digits 2 ≡ 2)
-  pub of-3 : (read_among 3 1 ≡ (1 ∷ 0 ∷ [])) × (lookup_among 3 1 ≡ record { place = At 0; reads = 2 }) × (digits 3 ≡ 2)
+  pub of-1 : (read_among 1 1 ≡ (0 ∷ [])) × (lookup_among 1 1 ≡ record { place = Ok 0; reads = 1 }) × (digits 1 ≡ 1)
+  pub of-2 : (read_among 2 1 ≡ (1 ∷ 0 ∷ [])) × (lookup_among 2 1 ≡ record { place = Ok 0; reads = 2 }) × (digits 2 ≡ 2)
+  pub of-3 : (read_among 3 1 ≡ (1 ∷ 0 ∷ [])) × (lookup_among 3 1 ≡ record { place = Ok 0; reads = 2 }) × (digits 3 ≡ 2)
   pub of-1023 : (read_among 1_023 1 ≡ (511 ∷ 255 ∷ 127 ∷ 63 ∷ 31 ∷ 15 ∷ 7 ∷ 3 ∷ 1 ∷ 0 ∷ [])) × (digits 1_023 ≡ 10)
   pub of-1024 : (read_among 1_024 1 ≡ (512 ∷ 256 ∷ 128 ∷ 64 ∷ 32 ∷ 16 ∷ 8 ∷ 4 ∷ 2 ∷ 1 ∷ 0 ∷ [])) × (digits 1_024 ≡ 11)
-  pub behind-1024 : (read_among 1_024 1_025 ≡ (512 ∷ 768 ∷ 896 ∷ 960 ∷ 992 ∷ 1_008 ∷ 1_016 ∷ 1_020 ∷ 1_022 ∷ 1_023 ∷ [])) × (lookup_among 1_024 1_025 ≡ record { place = Gap 1_024; reads = 10 })
+  pub behind-1024 : (read_among 1_024 1_025 ≡ (512 ∷ 768 ∷ 896 ∷ 960 ∷ 992 ∷ 1_008 ∷ 1_016 ∷ 1_020 ∷ 1_022 ∷ 1_023 ∷ [])) × (lookup_among 1_024 1_025 ≡ record { place = Err 1_024; reads = 10 })
 
 pub record LookupShown : Type 0 where
   -- "the halving steps in a definition that names the rows read": the middle row, then one half

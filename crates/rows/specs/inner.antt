@@ -1,4 +1,3 @@
 -- Definitions that only contracts of functions on rows and proofs speak of.
 pub mod Order
 pub mod Moves
-pub mod Halves

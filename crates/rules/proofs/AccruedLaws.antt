@@ -20,32 +20,32 @@ use Rattle.rules.specs.Table.{find, each}
 use Rattle.rules.specs.Queries.{accrued_yield}
 use Rattle.rules.specs.AccruedShown.{AccruedShown}
 use Rattle.rules.specs.inner.Accrued.{accrued_answer}
-use Rattle.rules.specs.declared.terms.Accrued.TheVariants.{Sum, Beyond}
-use Rattle.rules.specs.declared.terms.Yield.TheVariants.{Word, TooLarge}
+use Rattle.std.specs.Prelude.{Some, None, Ok, Err}
+use Rattle.rules.specs.declared.refusal.Refusal.TheVariants.{OverLimit}
 
 -- a number within the limit has a word
 limit-fits : (z : ℤ) → nat_abs z ≤ limit → SFits w64 z
 limit-fits z h = omega (arith, whole, abs z)
 
-within : (z : ℤ) → nat_abs z ≤ limit → Sum (of_z w64 z) ≡ accrued_answer z
-within z h = sym (ap (λ (t : Bool). cond t (Sum (of_z w64 z)) Beyond) (le-leb (nat_abs z) limit h))
+within : (z : ℤ) → nat_abs z ≤ limit → Ok (of_z w64 z) ≡ accrued_answer z
+within z h = sym (ap (λ (t : Bool). cond t (Ok (of_z w64 z)) (Err OverLimit)) (le-leb (nat_abs z) limit h))
 
-beyond : (z : ℤ) → limit < nat_abs z → Beyond ≡ accrued_answer z
-beyond z h = sym (ap (λ (t : Bool). cond t (Sum (of_z w64 z)) Beyond) (lt-leb (nat_abs z) limit h))
+beyond : (z : ℤ) → limit < nat_abs z → Err OverLimit ≡ accrued_answer z
+beyond z h = sym (ap (λ (t : Bool). cond t (Ok (of_z w64 z)) (Err OverLimit)) (lt-leb (nat_abs z) limit h))
 
 -- ---- a caller's cases
 
-pub sum-read : (z : ℤ) (n : ℕ) → Sum n ≡ accrued_answer z → (leb (nat_abs z) limit ≡ true) × (to_z w64 n ≡ z)
+pub sum-read : (z : ℤ) (n : ℕ) → Ok n ≡ accrued_answer z → (leb (nat_abs z) limit ≡ true) × (to_z w64 n ≡ z)
 sum-read z n = go (leb (nat_abs z) limit) refl
   where
-    go : (t : Bool) → leb (nat_abs z) limit ≡ t → Sum n ≡ cond t (Sum (of_z w64 z)) Beyond → (leb (nat_abs z) limit ≡ true) × (to_z w64 n ≡ z)
+    go : (t : Bool) → leb (nat_abs z) limit ≡ t → Ok n ≡ cond t (Ok (of_z w64 z)) (Err OverLimit) → (leb (nat_abs z) limit ≡ true) × (to_z w64 n ≡ z)
     go true e q = let w : n ≡ of_z w64 z = cc in (e, ap (to_z w64) w ∙ number-back z (limit-fits z (leb-true (nat_abs z) limit e)))
     go false e q = absurd (let k : ◌≡◌ {A = ℕ} 0 1 = cc in omega arith)
 
-pub beyond-read : (z : ℤ) → Beyond ≡ accrued_answer z → leb (nat_abs z) limit ≡ false
+pub beyond-read : (z : ℤ) → Err OverLimit ≡ accrued_answer z → leb (nat_abs z) limit ≡ false
 beyond-read z = go (leb (nat_abs z) limit) refl
   where
-    go : (t : Bool) → leb (nat_abs z) limit ≡ t → Beyond ≡ cond t (Sum (of_z w64 z)) Beyond → leb (nat_abs z) limit ≡ false
+    go : (t : Bool) → leb (nat_abs z) limit ≡ t → Err OverLimit ≡ cond t (Ok (of_z w64 z)) (Err OverLimit) → leb (nat_abs z) limit ≡ false
     go true e q = absurd (let k : ◌≡◌ {A = ℕ} 0 1 = cc in omega arith)
     go false e q = e
 
@@ -58,7 +58,7 @@ module _ (accrual : ℕ) (small : accrual ≤ limit) (running : ℕ) (word : run
   own : to_z w64 accrual ≡ pos accrual
   own = to_z_pos w64 accrual (omega arith)
 
-  pub too_much : lt_z (to_z w64 (limit - accrual)) run ≡ true → Beyond ≡ accrued_answer (pos accrual +ℤ run)
+  pub too_much : lt_z (to_z w64 (limit - accrual)) run ≡ true → Err OverLimit ≡ accrued_answer (pos accrual +ℤ run)
   too_much t =
       let room = to_z w64 (limit - accrual) in
       beyond (pos accrual +ℤ run) (omega (arith, lt-true room run t, low (limit - accrual) (omega arith), sum (pos accrual) run, abs (pos accrual +ℤ run)))
@@ -72,25 +72,25 @@ module _ (accrual : ℕ) (small : accrual ≤ limit) (running : ℕ) (word : run
     sum_is : to_z w64 s ≡ pos accrual +ℤ run
     sum_is = e ∙ ap (λ (z : ℤ). z +ℤ run) own
 
-    pub sum-beyond : limit < nat_abs (to_z w64 s) → Beyond ≡ accrued_answer (pos accrual +ℤ run)
+    pub sum-beyond : limit < nat_abs (to_z w64 s) → Err OverLimit ≡ accrued_answer (pos accrual +ℤ run)
     sum-beyond h = beyond (to_z w64 s) h ∙ ap accrued_answer sum_is
 
-    pub sum-within : nat_abs (to_z w64 s) ≤ limit → Sum s ≡ accrued_answer (pos accrual +ℤ run)
-    sum-within h = ap Sum (word_of s (to_z w64 s) k refl) ∙ within (to_z w64 s) h ∙ ap accrued_answer sum_is
+    pub sum-within : nat_abs (to_z w64 s) ≤ limit → Ok s ≡ accrued_answer (pos accrual +ℤ run)
+    sum-within h = ap Ok (word_of s (to_z w64 s) k refl) ∙ within (to_z w64 s) h ∙ ap accrued_answer sum_is
 
 -- ---- the yield's answer
 
-pub yield-word : (z : ℤ) (e : ℕ) → Word e ≡ yield_answer z → to_z w64 e ≡ z
+pub yield-word : (z : ℤ) (e : ℕ) → Some e ≡ yield_answer z → to_z w64 e ≡ z
 yield-word z e = go (ltb (nat_abs z) (2 ^ 63)) refl
   where
-    go : (t : Bool) → ltb (nat_abs z) (2 ^ 63) ≡ t → Word e ≡ cond t (Word (of_z w64 z)) TooLarge → to_z w64 e ≡ z
+    go : (t : Bool) → ltb (nat_abs z) (2 ^ 63) ≡ t → Some e ≡ cond t (Some (of_z w64 z)) None → to_z w64 e ≡ z
     go true k q = let w : e ≡ of_z w64 z = cc in ap (to_z w64) w ∙ number-back z (omega (arith, whole, abs z, ltb-true (nat_abs z) (2 ^ 63) k))
     go false k q = absurd (let n : ◌≡◌ {A = ℕ} 0 1 = cc in omega arith)
 
-pub yield-beyond : (accrual : ℕ) (z : ℤ) → accrual ≤ limit → TooLarge ≡ yield_answer z → Beyond ≡ accrued_answer (pos accrual +ℤ z)
+pub yield-beyond : (accrual : ℕ) (z : ℤ) → accrual ≤ limit → None ≡ yield_answer z → Err OverLimit ≡ accrued_answer (pos accrual +ℤ z)
 yield-beyond accrual z small = go (ltb (nat_abs z) (2 ^ 63)) refl
   where
-    go : (t : Bool) → ltb (nat_abs z) (2 ^ 63) ≡ t → TooLarge ≡ cond t (Word (of_z w64 z)) TooLarge → Beyond ≡ accrued_answer (pos accrual +ℤ z)
+    go : (t : Bool) → ltb (nat_abs z) (2 ^ 63) ≡ t → None ≡ cond t (Some (of_z w64 z)) None → Err OverLimit ≡ accrued_answer (pos accrual +ℤ z)
     go true k q = absurd (let n : ◌≡◌ {A = ℕ} 0 1 = cc in omega arith)
     go false k q = beyond (pos accrual +ℤ z) (omega (arith, ltb-false (nat_abs z) (2 ^ 63) k, abs z, sum (pos accrual) z, abs (pos accrual +ℤ z)))
 

@@ -26,3 +26,4 @@ pub mod BankedLaws
 pub mod AccruedLaws
 pub mod Bounds
 pub mod Refusals
+pub mod PassedOn

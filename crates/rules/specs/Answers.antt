@@ -1,8 +1,14 @@
 -- Answers, plans, and the ladder of tests that a plan is.
-use Rattle.std.specs.Prelude.{Bool, not, cond, ℕ, eqb, ℤ, pos}
+use Rattle.std.specs.Prelude.{Bool, not, cond, ℕ, eqb, ℤ, pos, Option, Some, None, Result, Ok, Err}
 use Rattle.rules.specs.Limits.{is_number}
 use Rattle.rules.specs.Books.{Books, Rooms, rooms_lent}
-use Rattle.rules.specs.Calls.{Account, Transfer, Answer, no_account}
+use Rattle.rules.specs.Calls.{Account, no_account}
+use Rattle.rules.specs.declared.refusal.Refusal.{Refusal}
+use Rattle.rules.specs.declared.refusal.Refusal.TheVariants as reason
+use Rattle.rules.specs.declared.answers.Direction.{Direction}
+use Rattle.rules.specs.declared.answers.Direction.TheVariants.{In, Out}
+use Rattle.rules.specs.declared.answers.Transfer as money
+use Rattle.rules.specs.declared.answers.Done.{Done}
 
 -- ---- document 01's table of codes; Done is 0
 
@@ -54,7 +60,32 @@ TableFull = 11
 unfoldable pub fresh_code : Account → Rooms → ℕ
 fresh_code admin rooms = cond (is_number admin.0) (cond (rooms_lent rooms) 0 BadTables) Malformed
 
+-- the code of a refusal as the code names it
+abbrev pub code_of : Refusal → ℕ
+code_of reason.Malformed = Malformed
+code_of reason.BadTables = BadTables
+code_of reason.Paused = Paused
+code_of reason.NoPayer = NoPayer
+code_of reason.NotAllowed = NotAllowed
+code_of reason.InvalidInput = InvalidInput
+code_of reason.NoRegistry = NoRegistry
+code_of reason.InvalidTransition = InvalidTransition
+code_of reason.InsufficientBalance = InsufficientBalance
+code_of reason.OverLimit = OverLimit
+code_of reason.TableFull = TableFull
+
+-- the code that a result tells: 0 where it is done
+abbrev pub told_code : {A : Type 0} → Result A Refusal → ℕ
+told_code (Ok x) = 0
+told_code (Err r) = code_of r
+
 -- ---- transfers: "transfers due, at most two, handed back in the answer"
+
+-- a transfer's place: its kind, an account and an amount
+pub record Transfer : Type 0 where
+  pub kind : ℕ
+  pub account : Account
+  pub amount : ℕ
 
 -- the place of a transfer that is not due
 abbrev pub no_transfer : Transfer
@@ -68,7 +99,24 @@ transfer_in a n = record { kind = 1; account = a; amount = n }
 abbrev pub transfer_out : Account → ℕ → Transfer
 transfer_out a n = record { kind = 2; account = a; amount = n }
 
+abbrev pub placed : Direction → Account → ℕ → Transfer
+placed In = transfer_in
+placed Out = transfer_out
+
+-- what stands in the place of a transfer as the code gives it
+abbrev pub due : Option money.Transfer → Transfer
+due None = no_transfer
+due (Some t) = placed t.direction t.account t.amount
+
 -- ---- answers
+
+-- "code, two numbers" and two places for transfers
+pub record Answer : Type 0 where
+  pub code : ℕ
+  pub first : ℤ
+  pub second : ℤ
+  pub one : Transfer
+  pub two : Transfer
 
 -- "Codes 1 to 11 answer 0, 0, no transfer"
 abbrev pub refusal : ℕ → Answer
@@ -77,6 +125,11 @@ refusal code = record { code = code; first = pos 0; second = pos 0; one = no_tra
 -- "the call took effect, or is one that pays or grants 0"
 abbrev pub done : ℤ → ℤ → Transfer → Transfer → Answer
 done first second one two = record { code = 0; first = first; second = second; one = one; two = two }
+
+-- the answer of a result as the code gives it
+abbrev pub answer_of : Result Done Refusal → Answer
+answer_of (Ok d) = done d.first d.second (due d.one) (due d.two)
+answer_of (Err r) = refusal (code_of r)
 
 -- what a call comes to
 pub record Outcome : Type 0 where

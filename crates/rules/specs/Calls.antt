@@ -12,8 +12,6 @@ pub use Rattle.rules.specs.declared.Operation.{Operation}
 pub use Rattle.rules.specs.declared.Operation.TheVariants.{Stake, Withdraw, Pay, Reserve, Claim, Rate, Pause, Unpause, PayoutCaller, Unknown}
 pub use Rattle.rules.specs.declared.Entry.{Entry}
 pub use Rattle.rules.specs.declared.Call.{Call}
-pub use Rattle.rules.specs.declared.Transfer.{Transfer}
-pub use Rattle.rules.specs.declared.Answer.{Answer}
 
 -- the account and the offer of a number
 abbrev pub account_no : ℕ → Account

@@ -5,8 +5,8 @@ use Rattle.rules.specs.Terms.{yield_rate, accrued_sum}
 use Rattle.rules.specs.Table.{all, count}
 use Rattle.rules.specs.Books.{Books, stake_at, offer_at, balance_of, unpaid_of}
 use Rattle.rules.specs.Sharing.{sharer}
-use Rattle.rules.specs.Calls.{Account, Offer, Answer}
-use Rattle.rules.specs.Answers.{refusal, done, no_transfer, Malformed, OverLimit}
+use Rattle.rules.specs.Calls.{Account, Offer}
+use Rattle.rules.specs.Answers.{Answer, refusal, done, no_transfer, Malformed, OverLimit}
 
 -- two numbers and no transfer
 abbrev pub told : ℤ → ℤ → Answer

@@ -1,7 +1,8 @@
 -- Calls and books to compute with: the admin is 1, the payout caller 2.
 use Rattle.std.specs.Prelude.{List, [], ◌∷◌, ℕ, ℤ}
 use Rattle.rules.specs.Books.{Books, fresh}
-use Rattle.rules.specs.Calls.{Operation, Call, Answer, account_no, offer_no, Stake, Withdraw, Pay, Reserve, Claim, Rate, PayoutCaller}
+use Rattle.rules.specs.Calls.{Operation, Call, account_no, offer_no, Stake, Withdraw, Pay, Reserve, Claim, Rate, PayoutCaller}
+use Rattle.rules.specs.Answers.{Answer}
 use Rattle.rules.specs.Step.{step}
 
 abbrev pub at : ℕ → ℕ → Operation → Call

@@ -1,14 +1,12 @@
 -- A pool's terms and what they come to: yield rate, payout cap, risk, yield, banking and what is shown as accrued.
-use Rattle.std.specs.Prelude.{Bool, cond, List, [], ◌∷◌, ℕ, ◌+◌, ◌*◌, ◌-◌, ◌/◌, ◌^◌, min, ltb, leb, eqb, ℤ, pos, nat_abs, ◌+ℤ◌, get_or}
+use Rattle.std.specs.Prelude.{Bool, cond, List, [], ◌∷◌, ℕ, ◌+◌, ◌*◌, ◌-◌, ◌/◌, ◌^◌, min, ltb, leb, eqb, ℤ, pos, nat_abs, ◌+ℤ◌, get_or, Option, Some, None, Result, Ok, Err}
 use Rattle.std.specs.Int.Signed.{le_z}
 use Rattle.std.specs.Int.{w64}
 use Rattle.std.proofs.Common.{of_z}
 use Rattle.whole.specs.Whole.{up}
 use Rattle.whole.specs.Shares.{share}
-use Rattle.rules.specs.declared.terms.Banked.{Banked}
-use Rattle.rules.specs.declared.terms.Banked.TheVariants.{To, OverLimit}
-use Rattle.rules.specs.declared.terms.Yield.{Yield}
-use Rattle.rules.specs.declared.terms.Yield.TheVariants.{Word, TooLarge}
+use Rattle.rules.specs.declared.refusal.Refusal.{Refusal}
+use Rattle.rules.specs.declared.refusal.Refusal.TheVariants.{OverLimit}
 use Rattle.rules.specs.Limits.{limit, basis_points, year_divisor, risk_age, risk_amount, aggressive, flat}
 
 -- tier_parameters: "Yield and payout cap in basis points: 200 and 5,000; 500 and 7,500; 1,000 and 10,000"
@@ -42,8 +40,8 @@ abbrev pub compute_yield : ℤ → ℕ → ℕ → ℤ
 compute_yield principal rate seconds = share principal (rate * seconds) year_divisor
 
 -- a yield as the function `compute_yield` answers it: a signed word, or that it has none
-abbrev pub yield_answer : ℤ → Yield
-yield_answer earned = cond (ltb (nat_abs earned) (2 ^ 63)) (Word (of_z w64 earned)) TooLarge
+abbrev pub yield_answer : ℤ → Option ℕ
+yield_answer earned = cond (ltb (nat_abs earned) (2 ^ 63)) (Some (of_z w64 earned)) None
 
 -- bank_accrued_yield, bank_tier_yield: "adds the yield to the accrual if positive". A stake of 0 or less has no such yield, so the
 -- test of Stake, "If the old stake is above 0", asks nothing more
@@ -51,8 +49,8 @@ unfoldable pub bank_accrued_yield : ℕ → ℕ → ℤ → ℕ → ℕ → ℕ
 bank_accrued_yield rate now stake since accrual = accrual + up (compute_yield stake rate (elapsed since now))
 
 -- an accrual as the function `bank_accrued_yield` answers it: "an accrual within 0 to 10^15", or that it would pass its limit
-abbrev pub banked_answer : ℕ → Banked
-banked_answer accrual = cond (leb accrual limit) (To accrual) OverLimit
+abbrev pub banked_answer : ℕ → Result ℕ Refusal
+banked_answer accrual = cond (leb accrual limit) (Ok accrual) (Err OverLimit)
 
 -- accrued_yield, accrued_tier_yield. W-204: "The Rust adds the running yield there too, negative and truncated toward zero, so the sum can fall
 -- below zero". A stake of 0 has a running yield of 0

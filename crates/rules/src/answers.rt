@@ -1,67 +1,45 @@
-// Answers and transfers, made as the rules make them.
-ghost use Rattle.std.specs.Prelude.{◌≡◌, ◌<◌, ◌^◌, pos};
-ghost use Rattle.rules.specs.Answers.{refusal, done, no_transfer, transfer_in, transfer_out};
+// What a call that is done answers.
+ghost use Rattle.std.specs.Prelude.{◌≡◌, ◌<◌, ◌^◌, pos, Ok};
+ghost use Rattle.rules.specs.Answers.{done, answer_of, due};
 
-use crate::{Account, Answer, Transfer};
+use crate::{Account, Refusal};
 
-// The place of a transfer that is not due.
-pub fn no_transfer() -> Transfer
-    ensures { result ≡ no_transfer }
-{
-    Transfer {
-        kind: 0,
-        account: Account(0),
-        amount: 0,
-    }
+// Which way money goes: from the account to the pool, or from the pool to the account.
+#[derive(Clone, Copy, Debug, PartialEq, Eq)]
+pub enum Direction {
+    In,
+    Out,
 }
 
-// From the account to the pool.
-pub fn transfer_in(account: Account, amount: u64) -> Transfer
-    ensures { result ≡ transfer_in account amount }
-{
-    Transfer {
-        kind: 1,
-        account,
-        amount,
-    }
+#[derive(Clone, Copy, Debug, PartialEq, Eq)]
+pub struct Transfer {
+    pub direction: Direction,
+    pub account: Account,
+    pub amount: u64,
 }
 
-// From the pool to the account.
-pub fn transfer_out(account: Account, amount: u64) -> Transfer
-    ensures { result ≡ transfer_out account amount }
-{
-    Transfer {
-        kind: 2,
-        account,
-        amount,
-    }
+// Two numbers, and at most two transfers that are due.
+#[derive(Clone, Copy, Debug, PartialEq, Eq)]
+pub struct Done {
+    pub first: i64,
+    pub second: i64,
+    pub one: Option<Transfer>,
+    pub two: Option<Transfer>,
 }
 
-// A refused call's: its code, two zeros, no transfer.
-pub fn refuse(code: u64) -> Answer
-    ensures { result ≡ refusal code }
-{
-    let one = no_transfer();
-    let two = no_transfer();
-    Answer {
-        code,
-        first: 0,
-        second: 0,
-        one,
-        two,
-    }
-}
+pub type Answer = Result<Done, Refusal>;
 
-// The answer of a call that is done, its numbers not below 0.
-pub fn finish(first: u64, second: u64, one: Transfer, two: Transfer) -> Answer
-    requires { (first < 2 ^ 63) × (second < 2 ^ 63) }
-    ensures { result ≡ done (pos first) (pos second) one two }
-{
-    Answer {
-        code: 0,
-        first: first as i64,
-        second: second as i64,
-        one,
-        two,
+impl Done {
+    // Of numbers that are not below 0.
+    pub fn new(first: u64, second: u64, one: Option<Transfer>, two: Option<Transfer>) -> Done
+        requires { (first < 2 ^ 63) × (second < 2 ^ 63) }
+        ensures { answer_of (Ok result) ≡ done (pos first) (pos second) (due one) (due two) }
+    {
+        Done {
+            first: first as i64,
+            second: second as i64,
+            one,
+            two,
+        }
     }
 }

@@ -1,4 +1,4 @@
-// Whether a call's or a question's own fields meet their needs.
+// Whether a call's or a question's own fields meet their needs. Pools and replies are matched with a catch-all, the form that document 01 names for them.
 ghost use Rattle.std.specs.Prelude.{◌≡◌, [], ◌∷◌, leb};
 ghost use Rattle.rules.specs.Limits.{last_time, last_reply, is_pool, is_number};
 ghost use Rattle.rules.specs.Table.{all};

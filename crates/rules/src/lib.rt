@@ -1,30 +1,31 @@
-// The declared types that the rules (specs/) speak of: calls, operations, answers; document 01's codes and limits; answers made; and the
-// rules that need no tables (terms.rt).
+// The declared types that the rules (specs/) speak of: calls, operations, answers and refusals; document 01's limits; and the rules that
+// need no tables (terms.rt).
 // Accounts, offers and invoices are different kinds of number, so that none can stand for another.
 #![tactic(auto)]
 
 mod answers;
-pub mod codes;
 mod fields;
 pub mod limits;
 mod malformed;
+mod refusal;
 mod terms;
 
-pub use answers::{finish, no_transfer, refuse, transfer_in, transfer_out};
+pub use answers::{Answer, Direction, Done, Transfer};
 pub use fields::{is_key, is_pool, is_time};
 pub use malformed::is_malformed;
+pub use refusal::Refusal;
 pub use terms::{
-    Accrued, Banked, TierTerms, Yield, accrued_sum, assess_risk, bank_accrued_yield, capped_amount,
-    compute_yield, tier_parameters, yield_rate,
+    TierTerms, accrued_sum, assess_risk, bank_accrued_yield, capped_amount, compute_yield,
+    tier_parameters, yield_rate,
 };
 
-#[derive(Clone, Copy)]
+#[derive(Clone, Copy, Debug, PartialEq, Eq)]
 pub struct Account(pub u64);
 
-#[derive(Clone, Copy)]
+#[derive(Clone, Copy, Debug, PartialEq, Eq)]
 pub struct Offer(pub u64);
 
-#[derive(Clone, Copy)]
+#[derive(Clone, Copy, Debug, PartialEq, Eq)]
 pub struct Invoice(pub u64);
 
 // Stake and withdraw.
@@ -35,7 +36,8 @@ pub struct StakeCall {
     pub amount: i64,
 }
 
-// Reply: the registry's, 0 not configured, 1 not Defaulted, 2 Defaulted.
+// Reply: the registry's, 0 not configured, 1 not Defaulted, 2 Defaulted. A call may carry any reply and any pool, and is malformed where there is none such:
+// the laws speak of these calls too, so both are numbers.
 #[derive(Clone, Copy)]
 pub struct PayCall {
     pub pool: u64,
@@ -66,7 +68,7 @@ pub struct RateCall {
     pub rate: i64,
 }
 
-// Unknown: a record of no such operation, or one with an unused field that is not 0.
+// Unknown: a record of no such operation, or one with an unused field that is not 0. The definitions speak of it, so that it is a case.
 #[derive(Clone, Copy)]
 pub enum Operation {
     Stake(StakeCall),
@@ -97,22 +99,4 @@ pub struct Call {
     pub now: u64,
     pub signer: Account,
     pub operation: Operation,
-}
-
-// Kind: 0 none, 1 in, 2 out.
-#[derive(Clone, Copy)]
-pub struct Transfer {
-    pub kind: u64,
-    pub account: Account,
-    pub amount: u64,
-}
-
-// Code, two numbers and at most two transfers.
-#[derive(Clone, Copy)]
-pub struct Answer {
-    pub code: u64,
-    pub first: i64,
-    pub second: i64,
-    pub one: Transfer,
-    pub two: Transfer,
 }

@@ -6,7 +6,7 @@ ghost use Rattle.rules.specs.Step.{field_tests, malformed};
 
 use crate::fields::{is_key, is_number, is_pool, is_reply, is_time};
 use crate::limits::FLAT;
-use crate::{Account, ClaimCall, Operation, PayCall, RateCall};
+use crate::{Call, ClaimCall, Operation, PayCall, RateCall};
 
 fn pay_fields(c: PayCall) -> bool
     ensures { result ≡ all (field_tests (Pay c)) }
@@ -43,8 +43,8 @@ fn fields_fit(o: Operation) -> bool
     }
 }
 
-pub fn is_malformed(time: u64, signer: Account, o: Operation) -> bool
-    ensures { result ≡ malformed (record { now = time; signer = signer; operation = o }) }
+pub fn is_malformed(call: Call) -> bool
+    ensures { result ≡ malformed call }
 {
-    !(is_time(time) & is_number(signer.0) & fields_fit(o))
+    !(is_time(call.now) & is_number(call.signer.0) & fields_fit(call.operation))
 }

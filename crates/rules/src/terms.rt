@@ -2,12 +2,12 @@
 ghost use Rattle.std.specs.Prelude.{◌≡◌, ◌*◌, ◌≤◌, ◌<◌, ◌^◌, pos, ◌+ℤ◌, get_or};
 ghost use Rattle.std.specs.Int.{w64};
 ghost use Rattle.std.proofs.Common.{to_z};
-ghost use Rattle.rules.specs.Terms.{tier_parameters, yield_rate, capped, assess_risk, compute_yield, point, yield_answer, elapsed, bank_accrued_yield, banked_answer, accrued_sum};
+ghost use Rattle.rules.specs.Terms.{tier_parameters, yield_rate, capped, assess_risk, compute_yield, yield_answer, elapsed, bank_accrued_yield, banked_answer, accrued_sum};
 ghost use Rattle.rules.specs.inner.Accrued.{accrued_answer};
 ghost use Rattle.rules.specs.Limits.{limit, last_time, greatest_rate, pools, flat};
 
+use crate::Refusal;
 use crate::limits::{AGGRESSIVE, FLAT, LIMIT};
-use limbs::MulDiv;
 
 const BASIS_POINTS: u64 = 10_000;
 
@@ -39,27 +39,6 @@ const TIERS: [TierTerms; FLAT as usize] = [
     },
 ];
 
-// A yield as a signed word, or that it has none.
-#[derive(Clone, Copy)]
-pub enum Yield {
-    Word(u64),
-    TooLarge,
-}
-
-// An accrual, or that it would pass its limit.
-#[derive(Clone, Copy)]
-pub enum Banked {
-    To(u64),
-    OverLimit,
-}
-
-// Banked and running yield together as a signed word, or that they lie beyond the limit.
-#[derive(Clone, Copy)]
-pub enum Accrued {
-    Sum(u64),
-    Beyond,
-}
-
 // The terms of a tier.
 pub fn tier_parameters(tier: usize) -> TierTerms
     requires { tier < flat }
@@ -76,8 +55,7 @@ pub fn yield_rate(flat: u64, pool: u64) -> u64
     if pool == FLAT {
         return flat;
     }
-    let terms = tier_parameters(pool as usize);
-    terms.apy
+    tier_parameters(pool as usize).apy
 }
 
 // An amount as a pool's cap leaves it. The product can have more than 64 bits.
@@ -89,88 +67,78 @@ pub fn capped_amount(pool: u64, amount: u64) -> u64
         return amount;
     }
     let terms = tier_parameters(pool as usize);
-    match limbs::mul_div(amount, terms.cap, BASIS_POINTS) {
-        MulDiv::Exact {
-            quotient,
-            remainder: _,
-        } => quotient,
-        MulDiv::TooLarge => 0,
-    }
+    limbs::mul_div(amount, terms.cap, BASIS_POINTS).map_or(0, |capped| capped.quotient)
 }
 
-// principal * rate * elapsed over a year, rounded toward zero. `principal` is a signed word.
-pub fn compute_yield(principal: u64, rate: u64, elapsed: u64) -> Yield
+// principal * rate * elapsed over a year, rounded toward zero, where that has a word. `principal` and the yield are signed words.
+pub fn compute_yield(principal: u64, rate: u64, elapsed: u64) -> Option<u64>
     requires { rate * elapsed < 2 ^ 64 }
     ensures { result ≡ yield_answer (compute_yield (to_z w64 principal) rate elapsed) }
 {
-    match limbs::signed_mul_div(principal, rate * elapsed, BASIS_POINT_YEAR) {
-        MulDiv::Exact {
-            quotient,
-            remainder: _,
-        } => Yield::Word(quotient),
-        MulDiv::TooLarge => Yield::TooLarge,
-    }
+    limbs::signed_mul_div(principal, rate * elapsed, BASIS_POINT_YEAR).map(|earned| earned.quotient)
 }
 
 // Seconds from `since` on, 0 if the clock went back.
 fn elapsed_secs(since: u64, time: u64) -> u64
     ensures { result ≡ elapsed since time }
 {
-    if time < since { 0 } else { time - since }
+    time.saturating_sub(since)
 }
 
-// An accrual with the yield of a stake banked at a time. `stake` is a signed word; a negative one earns nothing.
-pub fn bank_accrued_yield(rate: u64, time: u64, stake: u64, since: u64, accrual: u64) -> Banked
+// An accrual with the yield of a stake banked at a time, unless it would pass its limit. `stake` is a signed word; a negative one earns nothing.
+pub fn bank_accrued_yield(
+    rate: u64,
+    time: u64,
+    stake: u64,
+    since: u64,
+    accrual: u64,
+) -> Result<u64, Refusal>
     requires { (rate ≤ greatest_rate) × (time ≤ last_time) × (accrual ≤ limit) }
     ensures { result ≡ banked_answer (bank_accrued_yield rate time (to_z w64 stake) since accrual) }
 {
     if whole::is_negative(stake) {
-        return Banked::To(accrual);
+        return Ok(accrual);
     }
-    match compute_yield(stake, rate, elapsed_secs(since, time)) {
-        Yield::Word(earned) => {
-            if earned <= LIMIT - accrual {
-                Banked::To(accrual + earned)
-            } else {
-                Banked::OverLimit
-            }
-        }
-        Yield::TooLarge => Banked::OverLimit,
+    let Some(earned) = compute_yield(stake, rate, elapsed_secs(since, time)) else {
+        return Err(Refusal::OverLimit);
+    };
+    if LIMIT - accrual < earned {
+        return Err(Refusal::OverLimit);
     }
+    Ok(accrual + earned)
 }
 
-// An accrual and a running yield added up. `running` is a signed word.
-fn accrued_with(accrual: u64, running: u64) -> Accrued
+// An accrual and a running yield added up. `running` and the sum are signed words.
+fn accrued_with(accrual: u64, running: u64) -> Result<u64, Refusal>
     requires { accrual ≤ limit }
     ensures { result ≡ accrued_answer (pos accrual +ℤ to_z w64 running) }
 {
     if whole::less(LIMIT - accrual, running) {
-        return Accrued::Beyond;
+        return Err(Refusal::OverLimit);
     }
     let sum = whole::add(accrual, running);
     if LIMIT < whole::magnitude(sum) {
-        return Accrued::Beyond;
+        return Err(Refusal::OverLimit);
     }
-    Accrued::Sum(sum)
+    Ok(sum)
 }
 
-// What a stake shows as accrued at a time: its accrual and its running yield, which is negative for a stake below zero. `stake` is a signed word.
-pub fn accrued_sum(rate: u64, time: u64, stake: u64, since: u64, accrual: u64) -> Accrued
+// What a stake shows as accrued at a time: its accrual and its running yield, which is negative for a stake below zero. `stake` and the sum are signed words.
+pub fn accrued_sum(
+    rate: u64,
+    time: u64,
+    stake: u64,
+    since: u64,
+    accrual: u64,
+) -> Result<u64, Refusal>
     requires { (rate ≤ greatest_rate) × (time ≤ last_time) × (accrual ≤ limit) }
     ensures { result ≡ accrued_answer (accrued_sum rate time (to_z w64 stake) since accrual) }
 {
     let seconds = elapsed_secs(since, time);
     match compute_yield(stake, rate, seconds) {
-        Yield::Word(running) => accrued_with(accrual, running),
-        Yield::TooLarge => Accrued::Beyond,
+        Some(running) => accrued_with(accrual, running),
+        None => Err(Refusal::OverLimit),
     }
-}
-
-// One point where a test holds.
-fn point_of(test: bool) -> u64
-    ensures { (result ≡ point test) × (result ≤ 1) }
-{
-    if test { 1 } else { 0 }
 }
 
 // The pool for an invoice, by its age, its originator's repayments and defaults, and its amount.
@@ -180,13 +148,8 @@ pub fn assess_risk(age: u64, repayments: u32, defaults: u32, amount: i64) -> u64
     if amount <= 0 {
         return AGGRESSIVE;
     }
-    let old = point_of(RISK_AGE_SECS <= age);
-    let failing = point_of(repayments < defaults);
-    let large = point_of(RISK_LARGE_INVOICE_AMOUNT <= amount);
-    let points = old + failing + large;
-    if AGGRESSIVE < points {
-        AGGRESSIVE
-    } else {
-        points
-    }
+    let old = u64::from(RISK_AGE_SECS <= age);
+    let failing = u64::from(repayments < defaults);
+    let large = u64::from(RISK_LARGE_INVOICE_AMOUNT <= amount);
+    AGGRESSIVE.min(old + failing + large)
 }

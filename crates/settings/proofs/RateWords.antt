@@ -4,13 +4,10 @@ use mathlib.Core.Bool.{true, false}
 use Prim.Native.Nat.{ℕ, ◌≤◌, ◌<◌}
 use native.Mathlib.Omega.{arith}
 use borrow.Author.Tests.{lt-ltb, le-ltb}
-use lib.IntN.{pos}
+use lib.IntN.{pos, nat_abs}
 use lib.Signed.{lt_z}
-use mir.Syntax.{w64}
-use mir.Val.{of_z}
 use Rattle.whole.specs.Whole.{up}
-use Rattle.whole.proofs.Linear.{whole, one}
-use Rattle.whole.proofs.Words.{bits-low}
+use Rattle.whole.proofs.Linear.{whole, abs, one}
 use Rattle.rules.specs.declared.RateCall.{RateCall}
 use Rattle.rules.specs.Limits.{last_time, greatest_rate, flat}
 use Rattle.books.specs.Layout.{stake_width}
@@ -18,14 +15,14 @@ use Rattle.books.specs.Tables.{used_of}
 use Rattle.books.specs.Words.{Tables, good_tables}
 use Rattle.books.specs.inner.Held.{HeldStakes}
 use Rattle.books.specs.inner.Pool.{PoolStart}
-use Rattle.books.proofs.Good.{good-read, good-formed, stakes-held}
+use Rattle.books.proofs.Good.{good-formed, stakes-held}
 use Rattle.books.proofs.Writing.{rate-is}
 use Rattle.settings.specs.Rates.{RateAsked}
 use Rattle.settings.specs.inner.Banking.{CanBank}
 
-module _ (time : ℕ) (c : RateCall) (asked : RateAsked time c) (w : ℕ) (q : w ≡ of_z w64 c.rate) where
+module _ {time : ℕ} {c : RateCall} (asked : RateAsked time c) {w : ℕ} (q : w ≡ nat_abs c.rate) where
   pub word-is : w ≡ up c.rate
-  word-is = q ∙ bits-low c.rate (omega (arith, whole, asked.rate-is, one c.rate))
+  word-is = omega (arith, whole, q, abs c.rate, asked.rate-is, one c.rate)
 
   number_is : c.rate ≡ pos w
   number_is = omega (arith, whole, word-is, asked.rate-is, one c.rate)
@@ -36,16 +33,15 @@ module _ (time : ℕ) (c : RateCall) (asked : RateAsked time c) (w : ℕ) (q : w
   pub within : w ≤ greatest_rate → lt_z (pos greatest_rate) c.rate ≡ false
   within l = ap (lt_z (pos greatest_rate)) number_is ∙ le-ltb greatest_rate w l
 
-module _ (t : Tables) (g : good_tables t ≡ true) (n : ℕ) (e : n ≡ used_of stake_width t.stakes) where
+module _ (t : Tables) (g : good_tables t ≡ true) {n : ℕ} (e : n ≡ used_of stake_width t.stakes) where
   pub used-held : HeldStakes t.stakes n
   used-held = subst⁻¹ (λ (m : ℕ). HeldStakes t.stakes m) e (stakes-held t g)
 
-  pub can-bank : (from time : ℕ) → PoolStart t.stakes n flat from → time ≤ last_time → CanBank t.stakes t.books from n time
-  can-bank from time f h = record {
+  pub can-bank : {from time : ℕ} → PoolStart t.stakes n flat from → time ≤ last_time → CanBank t.stakes t.books from n time
+  can-bank f h = record {
     held = used-held;
     most = f.most;
     below = f.below;
-    sized = (good-read t g).sized;
     rate = omega (arith, rate-is t, (good-formed t g).rate-most);
     time-is = h;
   }

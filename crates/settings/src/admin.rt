@@ -1,41 +1,37 @@
 // What the admin's operations share: their first tests, and their answer.
-ghost use Rattle.std.specs.Prelude.{◌≡◌, not, eqb, pos, length, get_or};
+ghost use Rattle.std.specs.Prelude.{◌≡◌, not, cond, eqb, pos, get_or};
 ghost use Rattle.rules.specs.Calls.{account_no};
-ghost use Rattle.rules.specs.Answers.{done, no_transfer, not_by};
-ghost use Rattle.books.specs.Layout.{books_words, admin_word, paused_word};
+ghost use Rattle.rules.specs.Answers.{answer_of, done, no_transfer, not_by, told_code, NotAllowed};
+ghost use Rattle.books.specs.Layout.{admin_word, paused_word};
 ghost use Rattle.settings.specs.inner.Admin.{admin_code};
 
-use rules::codes::{NOT_ALLOWED, PAUSED};
-use rules::{Account, Answer, finish, no_transfer};
+use books::Books;
+use rules::{Account, Answer, Done, Refusal};
 
-// Whether the signer is not the admin.
-fn not_by_admin(books: &[u64], signer: Account) -> bool
-    requires { length books.now ≡ books_words }
-    ensures { result ≡ not_by (account_no (get_or books.now admin_word 0)) signer }
+// Refuses a signer who is not the admin.
+#[tactic(auto, unfolding(rules::specs::Answers::not_by))]
+pub fn by_admin(books: &Books, signer: Account) -> Result<(), Refusal>
+    ensures { told_code result ≡ cond (not_by (account_no (get_or books.now admin_word 0)) signer) NotAllowed 0 }
 {
-    let admin = books::admin(books);
-    signer.0 != admin.0
+    if signer != books::admin(books) {
+        return Err(Refusal::NotAllowed);
+    }
+    Ok(())
 }
 
-// The code of the first test that refuses, 0 where all are passed. `stops`: a pause stops the operation.
-pub fn admin_code(books: &[u64], signer: Account, stops: bool) -> u64
-    requires { length books.now ≡ books_words }
-    ensures { result ≡ admin_code stops (not (eqb (get_or books.now paused_word 0) 0)) (not_by (account_no (get_or books.now admin_word 0)) signer) }
+// The same of an operation that a pause stops.
+pub fn as_admin(books: &Books, signer: Account) -> Result<(), Refusal>
+    ensures { told_code result ≡ admin_code (not (eqb (get_or books.now paused_word 0) 0)) (not_by (account_no (get_or books.now admin_word 0)) signer) }
 {
-    if stops & books::is_paused(books) {
-        return PAUSED;
+    if books::is_paused(books) {
+        return Err(Refusal::Paused);
     }
-    if not_by_admin(books, signer) {
-        return NOT_ALLOWED;
-    }
-    0
+    by_admin(books, signer)
 }
 
 // The answer of a setting that is stored.
 pub fn stored() -> Answer
-    ensures { result ≡ done (pos 0) (pos 0) no_transfer no_transfer }
+    ensures { answer_of result ≡ done (pos 0) (pos 0) no_transfer no_transfer }
 {
-    let one = no_transfer();
-    let two = no_transfer();
-    finish(0, 0, one, two)
+    Ok(Done::new(0, 0, None, None))
 }

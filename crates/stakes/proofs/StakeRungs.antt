@@ -1,79 +1,75 @@
--- The plans of a stake and a withdrawal, on the rules' books, by the code of their first rungs.
-use mathlib.Core.Path.{sym, ◌≡◌, refl}
-use mathlib.Core.Bool.{Bool, true, false, not, cond, ◌&&◌, ◌||◌}
+-- The plans of a stake and a withdrawal, on the rules' books, by the code of their first rungs; and a call that is refused.
+use mathlib.Core.Path.{◌≡◌, sym}
+use mathlib.Core.Bool.{Bool, cond, ◌||◌}
 use Prim.Native.Nat.{ℕ}
 use native.Mathlib.Omega.{arith}
 use lib.Dec.{ltb, eqb}
 use lib.IntN.{pos}
 use lib.Signed.{lt_z, le_z}
-use Rattle.rules.specs.Limits.{limit, least_stake, flat}
+use Rattle.std.specs.Prelude.{Result, Err, IsErrAnd}
+use Rattle.std.proofs.lemmas.Result.{err_from_is_err_and}
+use Rattle.whole.specs.Whole.{up}
+use Rattle.rules.specs.Limits.{limit, least_stake}
 use Rattle.rules.specs.Books.{Books, StakeRow}
 use Rattle.rules.specs.declared.Account.{Account}
 use Rattle.rules.specs.declared.StakeCall.{StakeCall}
-use Rattle.rules.specs.Answers.{Plan, refused, ◌refuses◌else◌, not_by, Paused, NotAllowed, InvalidInput, InsufficientBalance, OverLimit, TableFull}
-use Rattle.rules.specs.Stakes.{staked_row, no_stake_room, stake, yield_due, overdrawn, unstake}
+use Rattle.rules.specs.declared.refusal.Refusal.{Refusal}
+use Rattle.rules.specs.Answers.{Plan, refused, does, code_of, ◌refuses◌else◌, not_by, no_transfer, transfer_in, transfer_out, Paused, NotAllowed, InvalidInput, InsufficientBalance, OverLimit, TableFull}
+use Rattle.rules.specs.Stakes.{staked_row, no_stake_room, after_stake, yield_due, overdrawn, after_unstake}
 use Rattle.books.specs.Words.{Tables}
-use Rattle.stakes.specs.declared.staker.Settled.TheVariants.{Refused}
-use Rattle.stakes.specs.inner.Changes.{SettledTo}
-use Rattle.stakes.specs.inner.Figures.{staker_code, staking, unstaking}
+use Rattle.stakes.specs.declared.staker.Change.{Change}
+use Rattle.stakes.specs.inner.Changes.{staker_code, SettledTo}
 
--- ---- the first rungs, as a code
+-- ---- the first rungs
 
-module _ (barred : Bool) (signer : Account) (c : StakeCall) where
-  code-plan : (p : Plan) → (barred refuses Paused else not_by c.staker signer refuses NotAllowed else le_z c.amount (pos 0) refuses InvalidInput else p) ≡ cond (eqb (staker_code barred signer c) 0) p (refused (staker_code barred signer c))
+module _ (barred : Bool) (signer : Account) (c : StakeCall) (p : Plan) (told : Bool) (same : told ≡ barred) where
+  abbrev first_rungs : Plan
+  first_rungs =
+      barred refuses Paused else
+      not_by c.staker signer refuses NotAllowed else
+      le_z c.amount (pos 0) refuses InvalidInput else
+      p
+
+  pub let_pass : 0 ≡ staker_code told signer c → first_rungs ≡ p
   unfolding staker_code
-  code-plan p = go barred (not_by c.staker signer) (le_z c.amount (pos 0))
-    where
-      go : (t u v : Bool) → (t refuses Paused else u refuses NotAllowed else v refuses InvalidInput else p) ≡ cond (eqb (cond t Paused (cond u NotAllowed (cond v InvalidInput 0))) 0) p (refused (cond t Paused (cond u NotAllowed (cond v InvalidInput 0))))
-      go true u v = refl
-      go false true v = refl
-      go false false true = refl
-      go false false false = refl
+  let_pass e = grind arith
 
-  -- past them the amount is above 0
-  pub code-some : staker_code barred signer c ≡ 0 → le_z c.amount (pos 0) ≡ false
+  pub turned_down : (r : Refusal) → code_of r ≡ staker_code told signer c → first_rungs ≡ refused (code_of r)
   unfolding staker_code
-  code-some e = go barred (not_by c.staker signer) (le_z c.amount (pos 0)) e
-    where
-      go : (t u v : Bool) → cond t Paused (cond u NotAllowed (cond v InvalidInput 0)) ≡ 0 → v ≡ false
-      go true u v e = absurd (omega arith)
-      go false true v e = absurd (omega arith)
-      go false false true e = absurd (omega arith)
-      go false false false e = refl
+  turned_down r e = grind arith
 
--- ---- stake
+-- ---- stake, past them
 
-module _ (b : Books) (time : ℕ) (signer : Account) (c : StakeCall) where
-  abbrev code : ℕ
-  code = staker_code b.settings.paused signer c
+module _ (b : Books) (time : ℕ) (c : StakeCall) where
+  abbrev pub staking : Plan
+  staking = does (pos 0) (pos 0) (transfer_in c.staker (up c.amount)) no_transfer (after_stake b time c)
 
-  pub by_code : stake b time signer c
-      ≡ cond (eqb code 0)
-      (lt_z (pos limit) c.amount refuses OverLimit else
+  abbrev pub stake_rungs : Plan
+  stake_rungs =
+      lt_z (pos limit) c.amount refuses OverLimit else
       lt_z (staked_row b time c).stake (pos least_stake) refuses InvalidInput else
       lt_z (pos limit) (staked_row b time c).stake || ltb limit (yield_due b time c) refuses OverLimit else
       no_stake_room b c refuses TableFull else
-      staking b time c)
-      (refused code)
-  unfolding stake
-  by_code = code-plan b.settings.paused signer c _
+      staking
 
--- ---- withdraw
+  -- ---- withdraw, past them
 
-module _ (b : Books) (time : ℕ) (signer : Account) (c : StakeCall) where
-  abbrev out_code : ℕ
-  out_code = staker_code (b.settings.paused && not (eqb c.pool flat)) signer c
+  abbrev pub unstaking : Plan
+  unstaking =
+      let due = yield_due b time c in
+      does (pos 0) (pos 0) (transfer_out c.staker (up c.amount)) (cond (eqb due 0) no_transfer (transfer_out c.staker due)) (after_unstake b time c)
 
-  pub by-out-code : unstake b time signer c
-      ≡ cond (eqb out_code 0)
-      (overdrawn b c refuses InsufficientBalance else
+  abbrev pub unstake_rungs : Plan
+  unstake_rungs =
+      overdrawn b c refuses InsufficientBalance else
       ltb limit (yield_due b time c) refuses OverLimit else
-      unstaking b time c)
-      (refused out_code)
-  unfolding unstake
-  by-out-code = code-plan (b.settings.paused && not (eqb c.pool flat)) signer c _
+      unstaking
 
 -- ---- refused
 
-pub turned_down : (t : Tables) (plan : Plan) (row : StakeRow) (code : ℕ) → plan ≡ refused code → SettledTo t plan row (Refused code)
-turned_down t plan row n e = record { plan-is = sym e; row_is = tt; ready = tt }
+pub refusing : {t : Tables} {plan : Plan} {row : StakeRow} {r : Refusal} → plan ≡ refused (code_of r) → SettledTo t plan row (Err r)
+refusing e = record { plan-is = sym e; row_is = tt; ready = tt }
+
+-- a refusal that `?` passes on
+pub passing-on : {t : Tables} {plan : Plan} {row : StakeRow} {out : Result Change Refusal} (r : Refusal) → plan ≡ refused (code_of r) → IsErrAnd out (λ x. x ≡ r) → SettledTo t plan row out
+passing-on {out} r e h = let p = err_from_is_err_and out h in rw (p.1, p.2) (refusing e)

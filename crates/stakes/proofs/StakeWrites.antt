@@ -5,8 +5,7 @@ use mathlib.Core.List.{List}
 use Prim.Native.Nat.{ℕ, ◌^◌, ◌<◌}
 use native.Mathlib.Omega.{arith}
 use lib.Dec.{leb}
-use lib.ListN.{length, get_or, set}
-use lib.Seq.{get_or-set_same}
+use lib.ListN.{length, set}
 use mir.Syntax.{w64}
 use mir.Val.{to_z}
 use Rattle.whole.proofs.Words.{word_back}
@@ -21,7 +20,7 @@ use Rattle.books.specs.Tables.{room_of, used_of, table_of, table_words}
 use Rattle.books.specs.Words.{Tables, tables, stake_row_at, stake_words, books_of, words_of, good_tables}
 use Rattle.books.specs.inner.Held.{Fit, HeldStakes, CanPutStake}
 use Rattle.books.proofs.Lists.{rows-length}
-use Rattle.books.proofs.Good.{same_tables, good-read, good-formed, stakes-held}
+use Rattle.books.proofs.Good.{same_tables, good-formed, stakes-held}
 use Rattle.books.proofs.Writing.{stakes-are, stake-room-is, write-stakes}
 use Rattle.stakes.specs.inner.Changes.{Writable}
 
@@ -57,11 +56,9 @@ module _ (s o b : List ℕ) (n : ℕ) (r : StakeRow) (h : Writable (tables s o b
     room = omega (arith, h.room, ap length rows_are, stake-room-is (tables s o b));
   }
 
-  pub change_plan : Fit s → Fit b → (s' b' : List ℕ) (v : ℕ) → Fit b'
+  pub change_plan : Fit s → Fit b → (s' b' : List ℕ) (v : ℕ) → v < 2 ^ 64
       → s' ≡ table_words stake_words stake_width (room_of stake_width s) (put stake_key stake_gone r (table_of stake_row_at stake_width s)) → b' ≡ set b r.pool v
       → tables s' o b' ≡ words_of (with_stakes k (put_stake k r) r.pool (to_z w64 v))
-  change_plan fs fb s' b' v f es eb =
-      let e = ap (λ (l : List ℕ). get_or l r.pool 0) eb ∙ get_or-set_same b r.pool v 0 (omega (arith, h.pool-is, (good-read (tables s o b) h.good).sized)) in
-      let hv : v < 2 ^ 64 = omega (arith, e, f r.pool) in
-      same_tables (es ∙ ap (table_words stake_words stake_width (room_of stake_width s)) rows_are) refl (eb ∙ ap (set b r.pool) (sym (word_back v hv)))
+  change_plan fs fb s' b' v small es eb =
+      same_tables (es ∙ ap (table_words stake_words stake_width (room_of stake_width s)) rows_are) refl (eb ∙ ap (set b r.pool) (sym (word_back v small)))
       ∙ write-stakes s o b h.good fs fb (put_stake k r) r.pool (to_z w64 v) h.pool-is

@@ -1,3 +1,2 @@
 -- Definitions that only contracts of private functions cite: the check holds code to them, and no reader need believe them.
-pub mod Figures
 pub mod Changes

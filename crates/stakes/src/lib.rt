@@ -1,4 +1,5 @@
-// Stake and withdraw on lent words: settled on the staker's row, then written.
+// Stake and withdraw on lent words: settled on the staker's row, then written. Each is settled by a function of its own, since their rungs
+// differ one by one.
 #![tactic(auto)]
 
 mod staker;

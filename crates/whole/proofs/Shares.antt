@@ -1,47 +1,31 @@
 -- A share by its parts: the signs are gone, and what is left is a product and a quotient of ℕ.
-use Rattle.std.proofs.Common.{◌≡◌, ℕ, suc, ◌*◌, ◌/◌, ◌%◌, ◌<◌, ◌≤◌, ℤ, pos, negsuc, ◌+ℤ◌, ◌*ℤ◌, nat_abs, sym, refl, ap, ◌∙◌, zero-le, mod-lt, mul-le-mul_left, div-add-mod', zero-mul, arith, le-ltb}
+use Rattle.std.proofs.Common.{◌≡◌, ℕ, suc, ◌*◌, ◌/◌, ◌%◌, ◌<◌, ◌≤◌, ℤ, pos, negsuc, ◌+ℤ◌, ◌*ℤ◌, nat_abs, refl, ap, ◌∙◌, zero-le, mod-lt, mul-le-mul_left, zero-mul, arith, le-ltb}
 use native.Mathlib.Nat.{zero-div, zero-mod, div-le_of_le-mul}
-use lib.Signed.{quot_z, rem_z, lt_z}
+use lib.Signed.{lt_z}
 use Rattle.whole.specs.Whole.{up, dn, signed_z}
 use Rattle.whole.specs.Shares.{share, dropped}
-use Rattle.whole.proofs.Linear.{whole, neg, sum, abs}
+use Rattle.std.proofs.lemmas.Int.{quot-rem}
+use borrow.Author.Differences.{quot_is, rem_is}
+use Rattle.whole.proofs.Linear.{whole, neg, one, abs}
 
-pub times : (x : ℤ) (l : ℕ) → (up (x *ℤ pos l) ≡ up x * l) × (dn (x *ℤ pos l) ≡ dn x * l)
-times (pos n) l = (refl, sym (zero-mul l))
-times (negsuc n) l = ((neg (pos (suc n * l))).0 ∙ sym (zero-mul l), (neg (pos (suc n * l))).1)
-
-pub quot : (x : ℤ) (t : ℕ) → (up (quot_z x (pos t)) ≡ up x / t) × (dn (quot_z x (pos t)) ≡ dn x / t)
-quot (pos n) t = (refl, sym (zero-div t))
-quot (negsuc n) t = ((neg (pos (suc n / t))).0 ∙ sym (zero-div t), (neg (pos (suc n / t))).1)
-
-pub rem : (x : ℤ) (t : ℕ) → (up (rem_z x (pos t)) ≡ up x % t) × (dn (rem_z x (pos t)) ≡ dn x % t)
-rem (pos n) t = (refl, sym (zero-mod t))
-rem (negsuc n) t = ((neg (pos (suc n % t))).0 ∙ sym (zero-mod t), (neg (pos (suc n % t))).1)
+times : (x : ℤ) (l : ℕ) → (up (x *ℤ pos l) ≡ up x * l) × (dn (x *ℤ pos l) ≡ dn x * l)
+times x l = omega (arith, whole)
 
 -- the parts of a share, and of what it drops
 pub share-is : (x : ℤ) (l t : ℕ) → (up (share x l t) ≡ up x * l / t) × (dn (share x l t) ≡ dn x * l / t)
-share-is x l t = ((quot (x *ℤ pos l) t).0 ∙ ap (λ (v : ℕ). v / t) (times x l).0, (quot (x *ℤ pos l) t).1 ∙ ap (λ (v : ℕ). v / t) (times x l).1)
+share-is x l t =
+    let parts = quot_is (x *ℤ pos l) t in
+    (parts.0 ∙ ap (λ (v : ℕ). v / t) (times x l).0, parts.1 ∙ ap (λ (v : ℕ). v / t) (times x l).1)
 
 pub dropped-is : (x : ℤ) (l t : ℕ) → (up (dropped x l t) ≡ up x * l % t) × (dn (dropped x l t) ≡ dn x * l % t)
-dropped-is x l t = ((rem (x *ℤ pos l) t).0 ∙ ap (λ (v : ℕ). v % t) (times x l).0, (rem (x *ℤ pos l) t).1 ∙ ap (λ (v : ℕ). v % t) (times x l).1)
+dropped-is x l t =
+    let z = x *ℤ pos l in
+    let parts = rem_is z t in
+    (parts.0 ∙ ap (λ (v : ℕ). v % t) (omega (arith, times x l, one z)), parts.1 ∙ ap (λ (v : ℕ). v % t) (omega (arith, times x l, one z)))
 
 -- t times the share and what it drops make the product, and what it drops is smaller in size than t
 pub share-exact : (x : ℤ) (l t : ℕ) → share x l t *ℤ pos t +ℤ dropped x l t ≡ x *ℤ pos l
-share-exact x l t =
-    let q = share x l t in
-    omega (
-      arith,
-      whole,
-      sum (q *ℤ pos t) (dropped x l t),
-      times x l,
-      times q t,
-      share-is x l t,
-      dropped-is x l t,
-      ap (λ (v : ℕ). v * t) (share-is x l t).0,
-      ap (λ (v : ℕ). v * t) (share-is x l t).1,
-      div-add-mod' (up x * l) t,
-      div-add-mod' (dn x * l) t,
-    )
+share-exact x l t = quot-rem (x *ℤ pos l) (pos t)
 
 pub dropped-small : (x : ℤ) (l t : ℕ) → 0 < t → (up (dropped x l t) < t) × (dn (dropped x l t) < t)
 dropped-small x l t h = omega (arith, dropped-is x l t, mod-lt (up x * l) h, mod-lt (dn x * l) h)

@@ -1,10 +1,9 @@
 -- Laws of sums: of a list, and over rows as a loop adds them up.
 use Rattle.std.proofs.Common.{◌≡◌, ℕ, zero, suc, ◌+◌, ◌*◌, ◌<◌, ◌≢◌, List, [], ◌∷◌, ◌++◌, length, get_or, set, ℤ, pos, ◌+ℤ◌, ◌-ℤ◌, refl, ap, ◌∙◌, add-one, arith}
 use native.Mathlib.Decide.{ℕ_discrete}
-use Rattle.whole.proofs.Linear.{whole, sum, dif, one}
+use Rattle.whole.proofs.Linear.{whole, one}
 use Rattle.whole.specs.Whole.{Within}
 use Rattle.whole.specs.Sums.{sum_z, total}
-use Rattle.whole.proofs.Group.{group}
 
 -- ---- of a list
 
@@ -13,17 +12,17 @@ unfolding sum_z
 sum-append [] ys = omega (arith, whole)
 sum-append (x ∷ xs) ys =
     let ih = sum-append xs ys in
-    omega (arith, whole, sum x (sum_z xs), sum (x +ℤ sum_z xs) (sum_z ys))
+    omega (arith, whole)
 
 -- one element replaced
 pub sum-set : (l : List ℤ) (i : ℕ) (v : ℤ) → i < length l → sum_z (set l i v) ≡ sum_z l +ℤ (v -ℤ get_or l i (pos 0))
 unfolding sum_z
 sum-set [] i v h = absurd (omega arith)
-sum-set (x ∷ l) zero v h = omega (arith, whole, sum x (sum_z l), dif v x, sum (x +ℤ sum_z l) (v -ℤ x))
+sum-set (x ∷ l) zero v h = omega (arith, whole)
 sum-set (x ∷ l) (suc i) v h =
     let ih = sum-set l i v (omega arith) in
     let d = v -ℤ get_or l i (pos 0) in
-    omega (arith, whole, sum x (sum_z l), sum (sum_z l) d, sum (x +ℤ sum_z l) d)
+    omega (arith, whole)
 
 -- each of n elements within B: the sum within n * B
 pub sum-within : (B : ℕ) (l : List ℤ) → ((i : ℕ) → i < length l → Within B (get_or l i (pos 0))) → Within (length l * B) (sum_z l)
@@ -31,7 +30,7 @@ unfolding sum_z
 sum-within B [] h = omega arith
 sum-within B (x ∷ l) h =
     let ih = sum-within B l (λ i k. h (suc i) (omega arith)) in
-    omega (arith, h zero (omega arith), sum x (sum_z l), one (x +ℤ sum_z l))
+    omega (arith, whole, h zero (omega arith), one (x +ℤ sum_z l))
 
 -- ---- of f 0, .., f (n − 1)
 
@@ -51,7 +50,7 @@ unfolding total
 total-within f B zero h = omega arith
 total-within f B (suc n) h =
     let ih = total-within f B n (λ i k. h i (omega arith)) in
-    omega (arith, h n (omega arith), sum (total f n) (f n), one (total f n +ℤ f n))
+    omega (arith, whole, h n (omega arith), one (total f n +ℤ f n))
 
 -- the same numbers, the same sum
 pub total-same : (f g : ℕ → ℤ) (n : ℕ) → ((i : ℕ) → i < n → f i ≡ g i) → total f n ≡ total g n
@@ -73,20 +72,20 @@ total-set f g r (suc n) p h = go (ℕ_discrete r n) (λ q. total-set f g r n q (
         let same = total-same g f n (λ i k. h i (omega arith) (omega arith)) in
         let eg = ap g e in
         let ef = ap f e in
-        omega (arith, whole, sum (total f n) (f n), dif (g r) (f r), sum (total f n +ℤ f n) (g r -ℤ f r))
+        omega (arith, whole)
     go (no ne) rest =
         let ih = rest (omega arith) in
         let same = h n (omega arith) (omega arith) in
-        omega (arith, whole, sum (total f n) (f n), dif (g r) (f r), sum (total f n) (g r -ℤ f r), sum (total f n +ℤ f n) (g r -ℤ f r))
+        omega (arith, whole)
 
 -- the first taken off
 pub total-front : (f : ℕ → ℤ) (n : ℕ) → total f (suc n) ≡ f 0 +ℤ total (λ i. f (suc i)) n
 unfolding total
-total-front f zero = simp group
+total-front f zero = omega (arith, whole)
 total-front f (suc n) =
     let ih = total-front f n in
     let t = total (λ i. f (suc i)) n in
-    omega (arith, whole, sum (total f n) (f n), sum (f 0) t, sum t (f (suc n)), sum (f 0) (t +ℤ f (suc n)))
+    omega (arith, whole)
 
 -- a list's sum is the total of its elements
 pub total-list : (l : List ℤ) → total (λ i. get_or l i (pos 0)) (length l) ≡ sum_z l

@@ -1,5 +1,5 @@
 // Signed 64-bit numbers kept as words in two's complement, each operation with its contract in ℤ:
-// `to_z w64 w` is the number that the word w holds. i64 stands only where a number comes in or goes out.
+// `to_z w64 w` is the number that the word w holds. Tables are words, so an i64 stands only where a number comes in or goes out, and inside these bodies.
 #![tactic(auto)]
 
 ghost use Rattle.std.specs.Prelude.{◌≡◌, ◌^◌, ◌<◌, pos, ◌+ℤ◌, ◌-ℤ◌, FitsSigned, int_lt, unsigned_abs};
@@ -11,22 +11,14 @@ ghost use Rattle.whole.specs.Whole.{min_z, signed_z};
 pub fn of_word(w: u64) -> i64
     ensures { result ≡ to_z w64 w }
 {
-    if w < 0x8000_0000_0000_0000 {
-        w as i64
-    } else {
-        -1 - (0xffff_ffff_ffff_ffff - w) as i64
-    }
+    w.cast_signed()
 }
 
 // The word of a number.
 pub fn to_word(x: i64) -> u64
     ensures { result ≡ of_z w64 x }
 {
-    if x < 0 {
-        0xffff_ffff_ffff_ffff - (-1 - x) as u64
-    } else {
-        x as u64
-    }
+    x.cast_unsigned()
 }
 
 // The sum, which the caller shows to fit. In two's complement the sum that wraps is the one wanted.
@@ -34,7 +26,7 @@ pub fn add(a: u64, b: u64) -> u64
     requires { FitsSigned w64 (to_z w64 a +ℤ to_z w64 b) }
     ensures { to_z w64 result ≡ to_z w64 a +ℤ to_z w64 b }
 {
-    std::num::wrapping_add_u64(a, b)
+    a.wrapping_add(b)
 }
 
 // The difference, which the caller shows to fit.
@@ -42,7 +34,7 @@ pub fn sub(a: u64, b: u64) -> u64
     requires { FitsSigned w64 (to_z w64 a -ℤ to_z w64 b) }
     ensures { to_z w64 result ≡ to_z w64 a -ℤ to_z w64 b }
 {
-    std::num::wrapping_sub_u64(a, b)
+    a.wrapping_sub(b)
 }
 
 // Whether a is less than b.
@@ -56,25 +48,21 @@ pub fn less(a: u64, b: u64) -> bool
 pub fn lesser(a: u64, b: u64) -> u64
     ensures { to_z w64 result ≡ min_z (to_z w64 a) (to_z w64 b) }
 {
-    if less(a, b) { a } else { b }
+    to_word(of_word(a).min(of_word(b)))
 }
 
 // Whether the number is below 0: its sign, set apart.
 pub fn is_negative(w: u64) -> bool
     ensures { result ≡ int_lt (to_z w64 w) (pos 0) }
 {
-    less(w, 0)
+    of_word(w).is_negative()
 }
 
 // The magnitude, of the least number too.
 pub fn magnitude(w: u64) -> u64
     ensures { result ≡ unsigned_abs (to_z w64 w) }
 {
-    if w < 0x8000_0000_0000_0000 {
-        w
-    } else {
-        0xffff_ffff_ffff_ffff - w + 1
-    }
+    of_word(w).unsigned_abs()
 }
 
 // The number of a sign and a magnitude.
@@ -82,11 +70,6 @@ pub fn signed(negative: bool, magnitude: u64) -> u64
     requires { magnitude < 2 ^ 63 }
     ensures { to_z w64 result ≡ signed_z negative magnitude }
 {
-    if magnitude == 0 {
-        0
-    } else if negative {
-        0xffff_ffff_ffff_ffff - (magnitude - 1)
-    } else {
-        magnitude
-    }
+    let number = of_word(magnitude);
+    to_word(if negative { -number } else { number })
 }

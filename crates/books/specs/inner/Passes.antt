@@ -1,34 +1,24 @@
--- What one pass over a table answers.
-use Rattle.std.specs.Prelude.{◌≡◌, Bool, true, false, not, List, [], ◌∷◌, ℕ, ◌+◌, ◌^◌, ◌<◌, eqb, leb, ℤ, pos, get_or}
-use Rattle.std.specs.Int.{w64}
-use Rattle.std.proofs.Common.{to_z}
+-- What one pass over a table answers, and what the table test asks of the books.
+use Rattle.std.specs.Prelude.{◌≡◌, Bool, true, false, not, List, [], ◌∷◌, ℕ, ◌+◌, ◌^◌, ◌<◌, eqb, leb, get_or, Option, MatchOption}
 use Rattle.rules.specs.Limits.{greatest_rate}
 use Rattle.rules.specs.Table.{all, sum_of}
-use Rattle.rules.specs.Books.{stake_key, offer_key}
-use Rattle.rules.specs.Formed.{rows_test, stake_test, offer_test, stake_in, cover_in}
-use Rattle.books.specs.Layout.{stake_width, offer_width, pools, each_pool, admin_word, paused_word, rate_word}
+use Rattle.rules.specs.Formed.{rows_test}
+use Rattle.books.specs.Layout.{pools, each_pool, admin_word, paused_word, rate_word}
 use Rattle.books.specs.Tables.{used_of, table_of}
-use Rattle.books.specs.Words.{stake_row_at, offer_row_at}
-use Rattle.books.specs.declared.pass.Pass.{Pass}
+use Rattle.books.specs.inner.Kinds.{Kind}
+use Rattle.books.specs.declared.pass.Passed.{Passed}
 
--- what a pass that fails answers
-abbrev pub no_pass : Pass
-no_pass = record { ok = false; used = 0; sums = each_pool (λ pool. 0) }
+module _ (k : Kind) (w : ℕ) where
+  -- the rows of s are in order, and p says how many are used and what each pool's rows come to
+  pub record IsPassed (s : List ℕ) (p : Passed) : Type 0 where
+    pub tests : rows_test k.key k.test 0 (table_of k.row_at w s) ≡ true
+    pub used : p.used ≡ used_of w s
+    pub words : (pool : ℕ) → get_or p.sums pool 0 < 2 ^ 64
+    pub sums : (pool : ℕ) → pool < pools → k.value (get_or p.sums pool 0) ≡ sum_of (k.part pool) (table_of k.row_at w s)
 
--- part: a row's part in the sum of a pool; value: the number that a word holds
-module _ {A : Type 0} (row_at : List ℕ → ℕ → A) (key : A → ℕ) (test : A → Bool) (part : ℕ → A → ℤ) (w : ℕ) (value : ℕ → ℤ) where
-  pub record Passed (s : List ℕ) (r : Pass) : Type 0 where
-    pub ok : r.ok ≡ rows_test key test 0 (table_of row_at w s)
-    pub failed : r.ok ≡ false → r ≡ no_pass
-    pub used : r.ok ≡ true → r.used ≡ used_of w s
-    pub words : r.ok ≡ true → (pool : ℕ) → get_or r.sums pool 0 < 2 ^ 64
-    pub sums : r.ok ≡ true → (pool : ℕ) → pool < pools → value (get_or r.sums pool 0) ≡ sum_of (part pool) (table_of row_at w s)
-
-abbrev pub StakesPassed : List ℕ → Pass → Type 0
-StakesPassed s r = Passed stake_row_at stake_key stake_test stake_in stake_width (to_z w64) s r
-
-abbrev pub OffersPassed : List ℕ → Pass → Type 0
-OffersPassed s r = Passed offer_row_at offer_key offer_test cover_in offer_width pos s r
+  -- and no answer is one that they are not
+  abbrev pub PassedOr : List ℕ → Option Passed → Type 0
+  PassedOr s r = MatchOption r (rows_test k.key k.test 0 (table_of k.row_at w s) ≡ false) (IsPassed s)
 
 -- ---- what the table test asks of the books' own words
 

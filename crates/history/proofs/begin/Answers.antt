@@ -3,10 +3,10 @@ use mathlib.Core.Path.{refl, sym, ◌∙◌}
 use Rattle.history.specs.Beginning.{opened}
 use Rattle.history.proofs.begin.Goals as goal
 
-pub returns-in-Admin : goal.returns-in-Admin
+pub returns-in-Some : goal.returns-in-Some
 unfolding opened
-returns-in-Admin c = rw (sym c.read_head.ensures.value ∙ c.in-Admin.is) c.fresh.ensures
+returns-in-Some c = rw (sym c.read_head.ensures.value ∙ c.in-Some.is) c.fresh.ensures
 
-pub returns-in-Bad : goal.returns-in-Bad
+pub returns-in-None : goal.returns-in-None
 unfolding opened
-returns-in-Bad c = rw (sym c.read_head.ensures.value ∙ c.in-Bad.is) refl
+returns-in-None c = rw (sym c.read_head.ensures.value ∙ c.in-None.is) refl

@@ -4,8 +4,6 @@ use Rattle.std.specs.Int.{w64}
 use Rattle.std.proofs.Common.{to_z}
 use Rattle.whole.specs.Whole.{dn, min_z, Within}
 use Rattle.whole.specs.Shares.{share}
-use Rattle.limbs.specs.declared.MulDiv.{MulDiv}
-use Rattle.limbs.specs.declared.MulDiv.TheVariants.{Exact, TooLarge}
 use Rattle.rows.specs.Rows.{word}
 use Rattle.rules.specs.Limits.{limit, most_stakes}
 use Rattle.rules.specs.Books.{is_zero}
@@ -50,11 +48,6 @@ pub record Divisible (s : ℤ) (loss balance : ℕ) : Type 0 where
   pub most : loss ≤ balance
   pub large : balance ≤ most_stakes * limit
 
--- the quotient of a multiply-and-divide, where there is one
-abbrev pub quotient_of : MulDiv → ℕ
-quotient_of (Exact quotient remainder) = quotient
-quotient_of TooLarge = 0
-
 -- what a row of stake s is lowered by: nothing where it has no stake; the last sharer by the rest; another by the lesser of its share and the rest
 unfoldable pub lowered_by : ℕ → ℕ → Bool → ℤ → ℤ → ℤ
 lowered_by loss balance last rest s = cond (is_zero s) (pos 0) (cond last rest (min_z (share s loss balance) rest))
@@ -65,9 +58,9 @@ rest_after s loss balance rest i zero = rest
 rest_after s loss balance rest i (suc n) =
     rest_after s loss balance (rest -ℤ lowered_by loss balance false rest (stake_at_row s i)) (suc i) n
 
--- what the last sharer would be left with, of the rows from .. last
-abbrev pub left_last : List ℕ → ℕ → ℕ → ℕ → ℕ → ℤ
-left_last s from last loss balance = stake_at_row s last -ℤ rest_after s loss balance (pos loss) from (last - from)
+-- what the last sharer would be left with
+abbrev pub left_last : List ℕ → Loss → ℤ
+left_last s l = stake_at_row s l.last -ℤ rest_after s l.amount l.balance (pos l.amount) l.from (l.last - l.from)
 
 -- the least stake
 abbrev pub least : ℤ
@@ -76,15 +69,15 @@ least = neg_ℤ (pos limit)
 -- ---- who shares
 
 -- rows from .. last, which share a loss
-pub record Sharers (s : List ℕ) (from last loss balance : ℕ) : Type 0 where
-  pub order : from ≤ last
-  pub few : last < from + most_stakes
-  pub room : last * stake_width + stake_width ≤ length s
-  pub small : (k : ℕ) → from ≤ k → k ≤ last → Within limit (stake_at_row s k)
-  pub some : 0 < balance
-  pub most : loss ≤ balance
-  pub large : balance ≤ most_stakes * limit
-  pub within : loss ≤ limit
+pub record Sharers (s : List ℕ) (l : Loss) : Type 0 where
+  pub order : l.from ≤ l.last
+  pub few : l.last < l.from + most_stakes
+  pub room : l.last * stake_width + stake_width ≤ length s
+  pub small : (k : ℕ) → l.from ≤ k → k ≤ l.last → Within limit (stake_at_row s k)
+  pub some : 0 < l.balance
+  pub most : l.amount ≤ l.balance
+  pub large : l.balance ≤ most_stakes * limit
+  pub within : l.amount ≤ limit
 
 -- a loss that was settled: where the pool's rows lie, and who bears the rest
 pub record Ready (s : List ℕ) (used : ℕ) (l : Loss) : Type 0 where

@@ -1,14 +1,13 @@
 -- What may be paid, granted or claimed, of the words of the books: the rules' `payable`, `grantable` and `claimable`.
-use Rattle.std.specs.Prelude.{◌≡◌, cond, List, ℕ, ◌-◌, ◌*◌, ◌≤◌, ◌<◌, eqb, ℤ, pos, ◌-ℤ◌, length}
+use Rattle.std.specs.Prelude.{cond, List, ℕ, ◌-◌, ◌*◌, ◌≤◌, ◌<◌, eqb, ℤ, pos, ◌-ℤ◌}
 use Rattle.whole.specs.Whole.{min_z, Within}
 use Rattle.rules.specs.Limits.{limit, most_stakes, most_offers, flat}
 use Rattle.rules.specs.Terms.{capped}
-use Rattle.books.specs.Layout.{books_words, pools}
+use Rattle.books.specs.Layout.{pools}
 use Rattle.books.specs.Words.{balance_in, unpaid_in}
 
 -- a pool's figures, within what rows can sum to, and a call's amount
 pub record Payable (b : List ℕ) (pool amount : ℕ) : Type 0 where
-  pub words : length b ≡ books_words
   pub pool-is : pool < pools
   pub balance : Within (most_stakes * limit) (balance_in b pool)
   pub unpaid : unpaid_in b pool ≤ most_offers * limit

@@ -1,7 +1,7 @@
 -- `main`: its rooms are within the limits.
-use Rattle.std.proofs.Common.{refl}
+use Rattle.std.proofs.Common.{refl, sym}
 use Rattle.replay.proofs.Rooms.{rooms-lent}
 use Rattle.replay.proofs.main.Goals as goal
 
-pub replay_log-is_printed-requires-clause-books_value : goal.replay_log-is_printed-requires-clause-books_value
-replay_log-is_printed-requires-clause-books_value c = rooms-lent _ _ _ c.stake_rows-stakes.ensures c.offer_rows-offers.ensures refl
+pub replay_log-replayed-requires-clause-tables_lent : goal.replay_log-replayed-requires-clause-tables_lent
+replay_log-replayed-requires-clause-tables_lent c = rooms-lent _ _ _ (sym c.array_of-stakes.ensures) (sym c.array_of-offers.ensures) refl

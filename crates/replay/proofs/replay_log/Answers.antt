@@ -1,65 +1,56 @@
 -- `replay_log`: the head, and the records behind a good one.
-use Rattle.std.proofs.Common.{arith, refl, ◌≡◌, ◌≤◌, ◌<◌, length, take, length-take-le}
-use borrow.Author.Tests.{not-true, not-false}
-use Rattle.books.specs.Words.{Tables, tables}
-use Rattle.log_file.specs.Opening.{head_bytes}
-use Rattle.replay.proofs.Heads.{bad-head, good-head}
+use Rattle.std.proofs.lemmas.Result.{on_ok_weaker}
+use Rattle.books.specs.Words.{tables}
+use Rattle.replay.proofs.Heads.{bad-read, good-read}
 use Rattle.replay.proofs.replay_log.Goals as goal
 
-pub returns-then-not-first : goal.returns-then-not-first
-returns-then-not-first g c =
+pub returns-then-is_none : goal.returns-then-is_none
+returns-then-is_none g c =
     let s = c.start-first.new in
-    let t : Tables = tables c.args.stakes.now c.args.offers.now c.args.books.now in
-    let t₁ : Tables = tables s.stakes s.offers s.books in
-    let head = take c.in-Has.there c.fill-filled.new.bytes in
-    let size : length head ≡ c.in-Has.there = length-take-le c.in-Has.there c.fill-filled.new.bytes c.in-Has.ensures.filled.most in
-    let within : length head ≤ head_bytes = omega (arith, size, c.in-Has.ensures.filled.most, c.fill-filled.auto.bytes) in
-    let short = λ (few : length head < head_bytes). c.in-Has.ensures.came.1 (omega (arith, few, size)) in
-    λ _. bad-head
-    t
-    head
+    bad-read
+    (tables c.args.stakes.now c.args.offers.now c.args.books.now)
+    c.fill.new.bytes
+    c.in_ok-there.there
+    c.in_ok-there.ensures.filled.most
+    c.fill.auto.bytes
     c.args.text.now
-    within
     c.start-first.result
-    t₁
+    (tables s.stakes s.offers s.books)
     s.text
     c.start-first.ensures.text_after
     (g.R.Read.remaining c.args.log.now)
-    (g.R.Read.remaining c.fill-filled.new.log)
+    (g.R.Read.remaining c.fill.new.log)
     (g.W.Write.contents c.args.answers.now)
     (g.W.Write.contents c.print.new.answers)
-    c.in-Has.ensures.came.0
-    short
-    (c.if-not-print.ensures refl)
-    (not-true _ c.if-not-first.true)
+    c.in_ok-there.ensures.came.0
+    c.in_ok-there.ensures.came.1
+    c.in_ok-print.ensures
+    c.if-is_none.ensures
 
-pub returns-else-not-first : goal.returns-else-not-first
-returns-else-not-first g c =
+pub returns : goal.returns
+returns g c =
     let s = c.start-first.new in
-    let t : Tables = tables c.args.stakes.now c.args.offers.now c.args.books.now in
-    let t₁ : Tables = tables s.stakes s.offers s.books in
-    let head = take c.in-Has.there c.fill-filled.new.bytes in
-    let size : length head ≡ c.in-Has.there = length-take-le c.in-Has.there c.fill-filled.new.bytes c.in-Has.ensures.filled.most in
-    let within : length head ≤ head_bytes = omega (arith, size, c.in-Has.ensures.filled.most, c.fill-filled.auto.bytes) in
-    let short = λ (few : length head < head_bytes). c.in-Has.ensures.came.1 (omega (arith, few, size)) in
-    λ done. good-head
-    t
-    head
+    let r = c.run.new in
+    let done = good-read
+    (tables c.args.stakes.now c.args.offers.now c.args.books.now)
+    c.fill.new.bytes
+    c.in_ok-there.there
+    c.in_ok-there.ensures.filled.most
+    c.fill.auto.bytes
     c.args.text.now
-    within
     c.start-first.result
-    t₁
+    (tables s.stakes s.offers s.books)
     s.text
     c.start-first.ensures.text_after
     (g.R.Read.remaining c.args.log.now)
-    (g.R.Read.remaining c.fill-filled.new.log)
+    (g.R.Read.remaining c.fill.new.log)
     (g.W.Write.contents c.args.answers.now)
     (g.W.Write.contents c.print.new.answers)
-    c.in-Has.ensures.came.0
-    short
-    (c.if-not-print.ensures refl)
-    (tables c.run.new.stakes c.run.new.offers c.run.new.books)
-    (g.R.Read.remaining c.run.new.log)
-    (g.W.Write.contents c.run.new.answers)
-    (not-false _ c.if-not-first.false)
-    (c.run.ensures.ran done)
+    c.in_ok-there.ensures.came.0
+    c.in_ok-there.ensures.came.1
+    c.in_ok-print.ensures
+    (tables r.stakes r.offers r.books)
+    (g.R.Read.remaining r.log)
+    (g.W.Write.contents r.answers)
+    c.if-is_none.ensures in
+    on_ok_weaker c.run.result done c.run.ensures.ran

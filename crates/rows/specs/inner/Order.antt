@@ -1,5 +1,5 @@
 -- Rows in order, used and unused, as contracts of search and tests say it.
-use Rattle.std.specs.Prelude.{◌≡◌, Bool, ◌&&◌, ◌≢◌, List, ℕ, ◌+◌, ◌*◌, ◌/◌, ◌≤◌, ◌<◌, eqb, get_or, length}
+use Rattle.std.specs.Prelude.{◌≡◌, ◌≢◌, List, ℕ, ◌*◌, ◌/◌, ◌≤◌, ◌<◌, get_or, length}
 use Rattle.rows.specs.Rows.{pool_word, number_word, word, key_of}
 
 -- the key of a row by itself
@@ -9,19 +9,6 @@ key_of_row row = key_of (get_or row pool_word 0) (get_or row number_word 0)
 -- every word from index `from` on is 0
 abbrev pub Blank : List ℕ → ℕ → Type 0
 Blank s from = (j : ℕ) → from ≤ j → get_or s j 0 ≡ 0
-
--- whether word j is 0; the two words from it on; the four; the eight
-abbrev pub zero_at : List ℕ → ℕ → Bool
-zero_at s j = eqb (get_or s j 0) 0
-
-abbrev pub two_zero : List ℕ → ℕ → Bool
-two_zero s j = zero_at s j && zero_at s (j + 1)
-
-abbrev pub four_zero : List ℕ → ℕ → Bool
-four_zero s j = two_zero s j && two_zero s (j + 2)
-
-abbrev pub eight_zero : List ℕ → ℕ → Bool
-eight_zero s j = four_zero s j && four_zero s (j + 4)
 
 -- n is the number of leading used rows: each row below n is used, and row n, if the table has one, is not
 pub record Used (s : List ℕ) (w n : ℕ) : Type 0 where

@@ -5,8 +5,6 @@ use native.Mathlib.Nat.{lt-div-mul-add}
 use lib.Bits.{bit_and, mask_lt}
 use Rattle.limbs.proofs.Limbs.{halves}
 use Rattle.limbs.proofs.quotient.next_digit.Goals as goal
-use Rattle.limbs.proofs.quotient.next_digit.Lts as lts
-use Rattle.limbs.proofs.quotient.next_digit.Reads as reads
 
 -- the guess by the upper half u of u * 2 ^ 32 + w: what it leaves, and what the lower half w takes
 balanced : (u w rest half g : ℕ) → g * u ≤ rest → g * (u * 2 ^ 32 + w) + ((rest - g * u) * 2 ^ 32 + half) ≡ rest * 2 ^ 32 + half + g * w
@@ -19,17 +17,8 @@ taken-fits u w rest g hu hw hr hg =
     let most : g ≤ 2 ^ 32 + 1 = omega arith in
     omega (arith, mul-le-mul_right w most)
 
--- what holds from the function's start on
-module _ (b : lts.Start reads.Pre reads.Post) where
-  abbrev v : ℕ
-  v = b.args.v
-
-  abbrev rest : ℕ
-  rest = b.args.rest
-
-  abbrev half : ℕ
-  half = b.args.half
-
+-- what is given: v has its top bit set, and rest is below it
+module _ (v rest half : ℕ) (given : (2 ^ 63 ≤ v) × (rest < v) × (half < 2 ^ 32)) (word : v < 2 ^ 64) where
   abbrev upper : ℕ
   upper = v / 2 ^ 32
 
@@ -64,7 +53,7 @@ module _ (b : lts.Start reads.Pre reads.Post) where
   left_lt = rw kept (omega (arith, over))
 
   taken-lt : taken < 2 ^ 64
-  taken-lt = taken-fits upper lower rest guess top_set (mask_lt v 32) (rw (halves v) b.requires.1) under
+  taken-lt = taken-fits upper lower rest guess top_set (mask_lt v 32) (rw (halves v) given.1) under
 
   -- where more than k times v is missing, the guess is above k
   above : (k : ℕ) → left + k * v < taken → k < guess
@@ -87,16 +76,26 @@ module _ (b : lts.Start reads.Pre reads.Post) where
       (all, hr, lt_of_mul-lt-mul_right v (omega (arith, all)))
 
 pub returns-then-taken-left : goal.returns-then-taken-left
-returns-then-taken-left c = lowered c.before _ 0 _ (omega arith) (omega arith) (omega (arith, left_lt c.before))
+returns-then-taken-left c =
+    let a = c.args in
+    lowered a.v a.rest a.half c.requires (omega arith) _ 0 _ (omega arith) (omega arith) (omega (arith, left_lt a.v a.rest a.half c.requires (omega arith)))
 
 pub overflow_sub-result-then-short-v : goal.overflow_sub-result-then-short-v
-overflow_sub-result-then-short-v c = omega (arith, one-too-large c.before.before c.before.if-taken-left.false)
+overflow_sub-result-then-short-v c =
+    let a = c.args in
+    omega (arith, one-too-large a.v a.rest a.half c.requires (omega arith) c.if-taken-left.false)
 
 pub returns-then-short-v : goal.returns-then-short-v
-returns-then-short-v c = lowered c.before.before _ 1 _ (omega (arith, overflow_sub-result-then-short-v c)) (omega arith) (omega arith)
+returns-then-short-v c =
+    let a = c.args in
+    lowered a.v a.rest a.half c.requires (omega arith) _ 1 _ (omega (arith, overflow_sub-result-then-short-v c)) (omega arith) (omega arith)
 
 pub overflow_sub-result-2 : goal.overflow_sub-result-2
-overflow_sub-result-2 c = two-too-large c.before.before (omega arith)
+overflow_sub-result-2 c =
+    let a = c.args in
+    two-too-large a.v a.rest a.half c.requires (omega arith) (omega arith)
 
 pub returns : goal.returns
-returns c = lowered c.before.before _ 2 _ (omega (arith, overflow_sub-result-2 c)) (omega (arith, taken-lt c.before.before)) (omega arith)
+returns c =
+    let a = c.args in
+    lowered a.v a.rest a.half c.requires (omega arith) _ 2 _ (omega (arith, overflow_sub-result-2 c)) (omega (arith, taken-lt a.v a.rest a.half c.requires (omega arith))) (omega arith)

@@ -15,5 +15,5 @@ read c = rw (c.known_if.ensures, c.operation_of.ensures, c.record_at-r.ensures)
 pub returns-clause-value : goal.returns-clause-value
 returns-clause-value c = read c
 
-pub returns-clause-result_value : goal.returns-clause-result_value
-returns-clause-result_value c = λ h. ap record_text (read c) ∙ record-again c.args.bytes.now c.args.at (λ i. (c.type_inv.bytes i).fits) c.requires (sym (ap malformed (read c)) ∙ h)
+pub returns-clause-written_back : goal.returns-clause-written_back
+returns-clause-written_back c = λ h. ap record_text (read c) ∙ record-again c.args.bytes.now c.args.at (λ i. (c.type_inv.bytes i).fits) c.requires (sym (ap malformed (read c)) ∙ h)

@@ -1,7 +1,7 @@
 -- `share_of` meets its contract: the share is at most the stake in size, so that its quotient fits (`signed-exact`).
 use mathlib.Core.Path.{◌∙◌, ap}
 use Prim.Native.Nat.{◌^◌, ◌<◌}
-use native.Mathlib.Omega.{arith}
+use Rattle.std.proofs.Common.{arith, rules}
 use lib.IntN.{ℤ, nat_abs}
 use mir.Syntax.{w64}
 use mir.Val.{to_z}
@@ -9,21 +9,15 @@ use Rattle.whole.specs.Shares.{share}
 use Rattle.whole.proofs.Linear.{whole, abs}
 use Rattle.whole.proofs.Shares.{share-le}
 use Rattle.whole.proofs.Words.{number-back}
+use Rattle.std.proofs.lemmas.Option.{MatchOption-at_some}
 use Rattle.limbs.proofs.Cases.{signed-exact}
-use Rattle.losses.specs.inner.Settling.{quotient_of}
 use Rattle.losses.proofs.share.share_of.Goals as goal
-use Rattle.losses.proofs.share.share_of.Lts as lts
-use Rattle.losses.proofs.share.share_of.Reads as reads
-use Rattle.losses.proofs.share.share_of.Tie as tie
-
-abbrev part : lts.Start tie.the-claims reads.Pre reads.Post → ℤ
-part s = share (to_z w64 s.args.stake) s.args.loss s.args.balance
-
-small : (s : lts.Start tie.the-claims reads.Pre reads.Post) → nat_abs (part s) < 2 ^ 63
-small s = omega (arith, share-le (to_z w64 s.args.stake) s.args.loss s.args.balance s.requires.most, abs (part s), s.requires.small)
 
 pub returns : goal.returns
 returns c =
-    let s = c.before.before in
-    let exact = signed-exact (to_z w64 s.args.stake) s.args.loss s.args.balance s.requires.some (omega (arith, s.requires.large)) (small s) in
-    ap (to_z w64) (c.quotient_of.ensures ∙ ap quotient_of (c.signed_mul_div.ensures ∙ exact)) ∙ number-back (part s) (omega (arith, whole, small s, abs (part s)))
+    let x : ℤ = to_z w64 c.args.stake in
+    let part : ℤ = share x c.args.loss c.args.balance in
+    let small : nat_abs part < 2 ^ 63 = omega (arith, share-le x c.args.loss c.args.balance c.requires.most, abs part, c.requires.small) in
+    let exact = signed-exact x c.args.loss c.args.balance c.requires.some (omega (arith, c.requires.large)) small in
+    let taken = MatchOption-at_some _ _ _ (c.signed_mul_div.ensures ∙ exact) c.map_or.ensures in
+    ap (to_z w64) (search rules) ∙ number-back part (omega (arith, whole, small, abs part))

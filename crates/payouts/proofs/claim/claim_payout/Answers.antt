@@ -1,39 +1,61 @@
--- `claim_payout` meets its contract: settled, then refused, answered or paid.
-use mathlib.Core.Path.{◌≡◌, ap, ◌∙◌}
+-- `claim_payout` meets its contract: refused, nothing paid, or a loss taken and the offer written.
+use mathlib.Core.Path.{refl}
 use native.Mathlib.Omega.{arith}
-use Rattle.rules.specs.Payouts.{claim_payout}
-use Rattle.books.specs.Words.{Tables, tables, books_of, acted}
-use Rattle.payouts.specs.declared.claim.Claimed.{Claimed}
+use borrow.Author.Rules.{rules}
+use Rattle.books.specs.Words.{tables}
 use Rattle.payouts.proofs.Openings.{refused-is, told_is}
 use Rattle.payouts.proofs.Claims as claims
 use Rattle.payouts.proofs.claim.claim_payout.Goals as goal
 
-pub tell-requires : goal.tell-requires
-tell-requires c =
-    let tab : Tables = tables c.args.stakes.now c.args.offers.now c.args.books.now in
-    let settled : (x : Claimed) → c.settle_claim.result ≡ x → (claims.claimed_plan (books_of (tab)) c.args.c.lender x ≡ claim_payout (books_of (tab)) c.args.signer c.args.c) × claims.ClaimReady (tab) x = λ x e. claims.settled (tab) c.requires.books_value c.args.signer c.args.c c.requires.claim_asked _ x c.settle_claim.ensures e in
-    (omega arith, (settled _ c.in-Nothing.is).1)
+pub returns-in_err-amount : goal.returns-in_err-amount
+returns-in_err-amount c =
+    let a = c.args in
+    let t = tables a.stakes.now a.offers.now a.books.now in
+    refused-is t _ _ c.from_residual.ensures.1 (claims.settled a.stakes.now a.offers.now a.books.now c.requires.books_value a.signer a.c c.requires.claim_asked _ c.in_err-amount.ensures).0
 
-pub pay_claim-requires : goal.pay_claim-requires
-pay_claim-requires c =
-    let tab : Tables = tables c.args.stakes.now c.args.offers.now c.args.books.now in
-    let settled : (x : Claimed) → c.settle_claim.result ≡ x → (claims.claimed_plan (books_of (tab)) c.args.c.lender x ≡ claim_payout (books_of (tab)) c.args.signer c.args.c) × claims.ClaimReady (tab) x = λ x e. claims.settled (tab) c.requires.books_value c.args.signer c.args.c c.requires.claim_asked _ x c.settle_claim.ensures e in
-    (settled _ c.in-Pays.is).1
+pub cover-left-requires : goal.cover-left-requires
+cover-left-requires c =
+    let a = c.args in
+    (claims.fits a.stakes.now a.offers.now a.books.now c.requires.books_value a.signer a.c c.requires.claim_asked c.in_ok-amount.ensures).covered
 
-pub returns-in-Refused : goal.returns-in-Refused
-returns-in-Refused c =
-    let tab : Tables = tables c.args.stakes.now c.args.offers.now c.args.books.now in
-    let settled : (x : Claimed) → c.settle_claim.result ≡ x → (claims.claimed_plan (books_of (tab)) c.args.c.lender x ≡ claim_payout (books_of (tab)) c.args.signer c.args.c) × claims.ClaimReady (tab) x = λ x e. claims.settled (tab) c.requires.books_value c.args.signer c.args.c c.requires.claim_asked _ x c.settle_claim.ensures e in
-    refused-is (tab) _ _ _ c.refuse.ensures (settled _ c.in-Refused.is).0
+pub new-requires : goal.new-requires
+new-requires c =
+    let a = c.args in
+    let h = claims.fits a.stakes.now a.offers.now a.books.now c.requires.books_value a.signer a.c c.requires.claim_asked c.in_ok-amount.ensures in
+    (omega arith, omega (arith, h.most))
 
-pub returns-in-Nothing : goal.returns-in-Nothing
-returns-in-Nothing c =
-    let tab : Tables = tables c.args.stakes.now c.args.offers.now c.args.books.now in
-    let settled : (x : Claimed) → c.settle_claim.result ≡ x → (claims.claimed_plan (books_of (tab)) c.args.c.lender x ≡ claim_payout (books_of (tab)) c.args.signer c.args.c) × claims.ClaimReady (tab) x = λ x e. claims.settled (tab) c.requires.books_value c.args.signer c.args.c c.requires.claim_asked _ x c.settle_claim.ensures e in
-    told_is (tab) _ _ c.requires.books_value (λ j. (c.slice_known-1.given j).fits) (λ j. (c.slice_known-3-1.given j).fits) _ _ c.tell.ensures (settled _ c.in-Nothing.is).0
+pub returns-then-amount-eq0 : goal.returns-then-amount-eq0
+returns-then-amount-eq0 c =
+    let a = c.args in
+    let t = tables a.stakes.now a.offers.now a.books.now in
+    told_is t c.requires.books_value (search rules) (search rules) _ c.new.ensures
+    (claims.nothing a.stakes.now a.offers.now a.books.now c.requires.books_value a.signer a.c c.requires.claim_asked c.in_ok-amount.ensures c.cover-left.ensures c.if-amount-eq0.true)
 
-pub returns-in-Pays : goal.returns-in-Pays
-returns-in-Pays c =
-    let tab : Tables = tables c.args.stakes.now c.args.offers.now c.args.books.now in
-    let settled : (x : Claimed) → c.settle_claim.result ≡ x → (claims.claimed_plan (books_of (tab)) c.args.c.lender x ≡ claim_payout (books_of (tab)) c.args.signer c.args.c) × claims.ClaimReady (tab) x = λ x e. claims.settled (tab) c.requires.books_value c.args.signer c.args.c c.requires.claim_asked _ x c.settle_claim.ensures e in
-    c.pay_claim.ensures ∙ ap (acted (tab)) (settled _ c.in-Pays.is).0
+pub take_loss-requires : goal.take_loss-requires
+take_loss-requires c =
+    let a = c.args in
+    (claims.fits a.stakes.now a.offers.now a.books.now c.requires.books_value a.signer a.c c.requires.claim_asked c.in_ok-amount.ensures).lose c.if-amount-eq0.false
+
+pub returns-in_err-take_loss : goal.returns-in_err-take_loss
+returns-in_err-take_loss c =
+    let a = c.args in
+    claims.over-limit a.stakes.now a.offers.now a.books.now c.requires.books_value a.signer a.c c.requires.claim_asked c.in_ok-amount.ensures c.if-amount-eq0.false
+    _ c.in_err-take_loss.ensures _ c.from_residual-in_err-take_loss.ensures.1
+
+pub write_offer-requires : goal.write_offer-requires
+write_offer-requires c =
+    let a = c.args in
+    claims.still_writes a.stakes.now a.offers.now a.books.now c.requires.books_value a.signer a.c c.requires.claim_asked c.in_ok-amount.ensures c.if-amount-eq0.false
+    c.in_ok-take_loss.ensures refl
+
+pub paid_to-requires : goal.paid_to-requires
+paid_to-requires c =
+    let a = c.args in
+    let h = claims.fits a.stakes.now a.offers.now a.books.now c.requires.books_value a.signer a.c c.requires.claim_asked c.in_ok-amount.ensures in
+    (omega (arith, (h.lose c.if-amount-eq0.false).within), omega (arith, h.most))
+
+pub returns : goal.returns
+returns c =
+    let a = c.args in
+    claims.claim_done a.stakes.now a.offers.now a.books.now c.requires.books_value a.signer a.c c.requires.claim_asked c.in_ok-amount.ensures c.if-amount-eq0.false
+    c.in_ok-take_loss.ensures c.write_offer.ensures c.cover-left.ensures _ c.paid_to.ensures

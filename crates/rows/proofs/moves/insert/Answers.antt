@@ -1,4 +1,4 @@
--- `insert` meets its contract: a copy up and a write are the list that the contract names (`inserted-made`). That the first `at` rows lie within
+-- `insert` meets its contract: a copy and a write are the list that the contract names (`inserted-made`). That the first `at` rows lie within
 -- the used ones is the one fact on products that it needs.
 use mathlib.Core.Path.{◌∙◌}
 use Rattle.rows.proofs.Table.{inserted-made}
@@ -8,4 +8,4 @@ pub returns : goal.returns
 returns c =
     let a = c.args in
     c.write_row.ensures
-    ∙ inserted-made a.s.now a.width a.used a.at a.row.now c.requires.at_le_used.0 c.requires.width_in_bounds c.copy_up.new.s c.copy_up.ensures
+    ∙ inserted-made a.s.now a.width a.used a.at a.row.now c.requires.at_le_used.0 c.requires.width_in_bounds c.copy_within.new.self c.copy_within.ensures.after

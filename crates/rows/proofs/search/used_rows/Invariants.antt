@@ -1,8 +1,10 @@
+use Prim.Native.Nat.{◌-◌, ◌≤◌}
+use mathlib.Core.Bool.{false}
 use Rattle.rows.proofs.Halves.{Counts}
 use Rattle.rows.proofs.search.used_rows.Given as goal
 
-abbrev pub invariant-loop-at : goal.invariant-loop-at
-invariant-loop-at l = Counts l.s l.width l.at
+abbrev pub invariant-loop-used : goal.invariant-loop-used
+invariant-loop-used l = (l.used ≤ l.unused) × Counts l.s l.width (record { low = l.used; rows = l.unused - l.used; found = false })
 
-abbrev pub decreases-loop-at : goal.decreases-loop-at
-decreases-loop-at l = l.at.rows
+abbrev pub decreases-loop-used : goal.decreases-loop-used
+decreases-loop-used l = l.unused - l.used

@@ -13,4 +13,4 @@ unfolding malformed
 returns c =
     ap not
     (ap₂ both (ap₂ both c.is_time.ensures c.is_number.ensures) c.fields_fit.ensures
-    ∙ all-last _ _ (field_tests c.args.o))
+    ∙ all-last _ _ (field_tests c.args.call.operation))

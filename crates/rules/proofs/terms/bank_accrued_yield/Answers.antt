@@ -9,20 +9,20 @@ returns-then-is_negative c =
     let a = c.args in
     none-banked a.rate a.time (to_z w64 a.stake) a.since a.accrual (sym c.is_negative.ensures ∙ c.if-is_negative.true) (omega arith)
 
-pub returns-then-earned-accrual : goal.returns-then-earned-accrual
-returns-then-earned-accrual c =
+pub returns-in_default : goal.returns-in_default
+returns-in_default c =
     let a = c.args in
-    let answered = sym c.in-Word.is ∙ c.compute_yield.ensures ∙ ap (λ (n : ℕ). yield_answer (compute_yield (to_z w64 a.stake) a.rate n)) c.elapsed_secs.ensures in
-    banked-to a.rate a.time (to_z w64 a.stake) a.since a.accrual c.in-Word.earned (sym c.is_negative.ensures ∙ c.if-is_negative.false) answered (omega arith) (omega arith)
+    banked-large a.rate a.time (to_z w64 a.stake) a.since a.accrual (sym c.is_negative.ensures ∙ c.if-is_negative.false)
+    (c.in_default.ensures ∙ ap (λ (n : ℕ). yield_answer (compute_yield (to_z w64 a.stake) a.rate n)) c.elapsed_secs.ensures)
 
-pub returns-else-earned-accrual : goal.returns-else-earned-accrual
-returns-else-earned-accrual c =
+pub returns-then-accrual-earned : goal.returns-then-accrual-earned
+returns-then-accrual-earned c =
     let a = c.args in
-    let answered = sym c.in-Word.is ∙ c.compute_yield.ensures ∙ ap (λ (n : ℕ). yield_answer (compute_yield (to_z w64 a.stake) a.rate n)) c.elapsed_secs.ensures in
-    banked-over a.rate a.time (to_z w64 a.stake) a.since a.accrual c.in-Word.earned (sym c.is_negative.ensures ∙ c.if-is_negative.false) answered (omega arith) (omega arith)
+    banked-over a.rate a.time (to_z w64 a.stake) a.since a.accrual c.in-Some.earned (sym c.is_negative.ensures ∙ c.if-is_negative.false)
+    (c.in-Some.ensures ∙ ap (λ (n : ℕ). yield_answer (compute_yield (to_z w64 a.stake) a.rate n)) c.elapsed_secs.ensures) (omega arith) (omega arith)
 
-pub returns-in-TooLarge : goal.returns-in-TooLarge
-returns-in-TooLarge c =
+pub returns : goal.returns
+returns c =
     let a = c.args in
-    let answered = sym c.in-TooLarge.is ∙ c.compute_yield.ensures ∙ ap (λ (n : ℕ). yield_answer (compute_yield (to_z w64 a.stake) a.rate n)) c.elapsed_secs.ensures in
-    banked-large a.rate a.time (to_z w64 a.stake) a.since a.accrual (sym c.is_negative.ensures ∙ c.if-is_negative.false) answered
+    banked-to a.rate a.time (to_z w64 a.stake) a.since a.accrual c.in-Some.earned (sym c.is_negative.ensures ∙ c.if-is_negative.false)
+    (c.in-Some.ensures ∙ ap (λ (n : ℕ). yield_answer (compute_yield (to_z w64 a.stake) a.rate n)) c.elapsed_secs.ensures) (omega arith) (omega arith)

@@ -1,10 +1,7 @@
--- The rows from row i on fit.
+-- The rows before row i fit.
 use Prim.Native.Nat.{ℕ, ◌≤◌, ◌<◌}
 use Rattle.settings.proofs.RateRows.{Fits}
 use Rattle.settings.proofs.rate.rows_fit.Given as goal
 
 abbrev pub invariant-loop-i : goal.invariant-loop-i
-invariant-loop-i l = record { low : l.from ≤ l.i; high : l.i ≤ l.used; fit : (j : ℕ) → l.i ≤ j → j < l.used → Fits l.books l.time l.stakes j }
-
-abbrev pub decreases-loop-i : goal.decreases-loop-i
-decreases-loop-i l = l.i
+invariant-loop-i l = (j : ℕ) → l.from ≤ j → j < l.i → Fits l.books l.time l.stakes j

@@ -1,2 +1,0 @@
--- Laws of the face.
-pub mod Facts
