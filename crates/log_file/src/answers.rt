@@ -28,7 +28,7 @@ impl Text<'_> {
     }
 
     // A record's number, the code of its answer, and two numbers.
-    fn write_line(&mut self, number: u64, code: u64, first: i64, second: i64)
+    pub fn write_line(&mut self, number: u64, code: u64, first: i64, second: i64)
         requires { self.old.at + 86 ≤ length self.old.bytes.now }
         ensures wrote { Wrote self.old (figures_text number code first second) self.new }
         ensures upper_bound { self.new.at ≤ self.old.at + 86 }
@@ -39,7 +39,7 @@ impl Text<'_> {
         self.put_number(second, b'\n');
     }
 
-    fn write_transfer(&mut self, transfer: Option<Transfer>)
+    pub fn write_transfer(&mut self, transfer: Option<Transfer>)
         requires { self.old.at + 46 ≤ length self.old.bytes.now }
         ensures wrote { Wrote self.old (transfer_text (due transfer)) self.new }
         ensures upper_bound { self.new.at ≤ self.old.at + 46 }
