@@ -1,7 +1,7 @@
 -- The table test, part by part: the facts that the code tests are those that `good_tables` says.
 use mathlib.Core.Path.{◌≡◌, refl, sym, ap, ◌∙◌}
 use mathlib.Core.Bool.{true, false, not}
-use mathlib.Core.List.{List, [], ◌∷◌}
+use mathlib.Core.List.{List}
 use Prim.Native.Nat.{ℕ, ◌+◌, ◌*◌, ◌<◌}
 use native.Mathlib.Nat.{zero-add}
 use native.Mathlib.Omega.{arith}
@@ -15,7 +15,7 @@ use Rattle.whole.specs.Whole.{up}
 use Rattle.rows.specs.Rows.{all_zero}
 use Rattle.rows.proofs.Order.{false-true}
 use Rattle.rules.specs.Limits.{is_number, two_to64}
-use Rattle.rules.specs.Table.{all, sum_of}
+use Rattle.rules.specs.Table.{sum_of}
 use Rattle.rules.specs.Books.{stake_key, offer_key, balance_of, unpaid_of}
 use Rattle.rules.specs.Formed.{rows_test, stake_test, offer_test, stake_in, cover_in, sums_test, well_formed}
 use Rattle.rules.proofs.Tests.{nth, held, below-made, and_left, and_right, word_number}
@@ -125,28 +125,39 @@ module _ (s o b : List ℕ) where
         let l = nth _ x.lengths in
         held _ (rw (l 0, x.stakes-end), (rw (l 1, x.offers-end), (l 2, (nth _ x.figures 1, (formed-made x, tt)))))
 
-    -- what the code tests of words of the lent lengths whose rows are in order is all that is left to test
+    -- a test that fails refuses
+    module _ (r : Passed) where
+      pub balances-refused : IsPassed stake_kind stake_width s r → same_sums b balance_words r.sums ≡ false → false ≡ good_tables (tables s o b)
+      balances-refused d e = refuted (good_tables (tables s o b)) (λ g. false-true (sym e ∙ balances-made r d (parts-read g).balances))
+
+      pub unpaid-refused : IsPassed offer_kind offer_width o r → same_sums b unpaid_words r.sums ≡ false → false ≡ good_tables (tables s o b)
+      unpaid-refused d e = refuted (good_tables (tables s o b)) (λ g. false-true (sym e ∙ unpaid-made r d (parts-read g).unpaid))
+
+      pub stakes-end-refused : IsPassed stake_kind stake_width s r → all_zero (drop (r.used * stake_width) s) ≡ false → false ≡ good_tables (tables s o b)
+      stakes-end-refused d e = refuted (good_tables (tables s o b)) (λ g. false-true (sym e ∙ rw d.used (parts-read g).stakes-end))
+
+    pub settings-refused : settings_test b ≡ false → false ≡ good_tables (tables s o b)
+    settings-refused e = refuted (good_tables (tables s o b)) (λ g. false-true (sym e ∙ (parts-read g).figures))
+
+    -- of words of the lent lengths whose rows are in order, the tests of the code in a row are all that is left to test: where the others are passed,
+    -- the last decides
     pub tests-are : lent (tables s o b) ≡ true → (p q : Passed) → IsPassed stake_kind stake_width s p → IsPassed offer_kind offer_width o q
-        → all (same_sums b balance_words p.sums ∷ same_sums b unpaid_words q.sums ∷ settings_test b ∷ all_zero (drop (p.used * stake_width) s) ∷ all_zero (drop (q.used * offer_width) o) ∷ [])
-        ≡ good_tables (tables s o b)
-    tests-are l p q staked offered =
+        → same_sums b balance_words p.sums ≡ true → same_sums b unpaid_words q.sums ≡ true → settings_test b ≡ true → all_zero (drop (p.used * stake_width) s) ≡ true
+        → all_zero (drop (q.used * offer_width) o) ≡ good_tables (tables s o b)
+    tests-are l p q staked offered balances unpaid figures stakes-end =
         bool_same _ (good_tables (tables s o b))
         (λ e.
-        let t = nth _ e in
         parts-made (record {
           lengths = l;
           stake-tests = staked.tests;
           offer-tests = offered.tests;
-          balances = balances-read p staked (t 0);
-          unpaid = unpaid-read q offered (t 1);
-          figures = t 2;
-          stakes-end = rw staked.used at (t 3);
-          offers-end = rw offered.used at (t 4);
+          balances = balances-read p staked balances;
+          unpaid = unpaid-read q offered unpaid;
+          figures = figures;
+          stakes-end = rw staked.used at stakes-end;
+          offers-end = rw offered.used at e;
         }))
-        (λ g.
-        let x = parts-read g in
-        held _
-        (balances-made p staked x.balances, (unpaid-made q offered x.unpaid, (x.figures, (rw staked.used x.stakes-end, (rw offered.used x.offers-end, tt))))))
+        (λ g. rw offered.used (parts-read g).offers-end)
 
   -- and what refuses: other lengths, stake rows and offer rows that are not in order
   pub not-lent : lent (tables s o b) ≡ false → Fit b → false ≡ good_tables (tables s o b)

@@ -27,7 +27,7 @@ fn settings_test(books: &[u64]) -> bool
     (books[ADMIN] != 0) & (books[PAUSED] <= 1) & (books[RATE] <= GREATEST_RATE)
 }
 
-// Whether lent words are well formed.
+// Whether lent words are well formed. The first test that fails ends it: tables that are refused cost no more than what is read of them.
 pub fn tables_well_formed(stakes: &[u64], offers: &[u64], books: &[u64]) -> bool
     ensures { result ≡ good_tables (tables stakes.now offers.now books.now) }
 {
@@ -37,12 +37,20 @@ pub fn tables_well_formed(stakes: &[u64], offers: &[u64], books: &[u64]) -> bool
     let Some(staked) = pass::<STAKE_WIDTH, Stake>(stakes) else {
         return false;
     };
+    if !same_sums(books, BALANCES, staked.sums) {
+        return false;
+    }
     let Some(offered) = pass::<OFFER_WIDTH, OfferLine>(offers) else {
         return false;
     };
-    same_sums(books, BALANCES, staked.sums)
-        & same_sums(books, UNPAID, offered.sums)
-        & settings_test(books)
-        & rows::blank(stakes, staked.used * STAKE_WIDTH)
-        & rows::blank(offers, offered.used * OFFER_WIDTH)
+    if !same_sums(books, UNPAID, offered.sums) {
+        return false;
+    }
+    if !settings_test(books) {
+        return false;
+    }
+    if !rows::blank(stakes, staked.used * STAKE_WIDTH) {
+        return false;
+    }
+    rows::blank(offers, offered.used * OFFER_WIDTH)
 }

@@ -17,6 +17,7 @@ pub record Bounded (t : Tables) (records room : List ℕ) (number : ℕ) (p : Pr
 -- after a turn
 pub record Onward (t : Tables) (there : ℕ) (room : List ℕ) (number : ℕ) (r : Turn) : Type 0 where
   pub good : good_tables t ≡ true
+  pub left : r.place.there ≤ there
   pub printed : r.printed ≤ length room
   -- a turn that is not the last has run a record, and leaves no more bytes than were there
   pub next : IfSome r.next (λ p. (p.there ≤ there) × (number < p.number))

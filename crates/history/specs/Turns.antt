@@ -30,7 +30,7 @@ start_of t head room =
     let o = opened t head in
     let is = eqb o.code 0 in
     let text = cond is opening_text bad_head_text in
-    started (record { printed = length text; next = cond is (Some beginning) None }) o.tables (written room 0 text)
+    started (record { place = beginning; printed = length text; next = cond is (Some beginning) None }) o.tables (written room 0 text)
 
 -- ---- at a part: the turn, and the tables and both buffers after it
 
@@ -47,14 +47,15 @@ turned turn t bytes text = record { turn = turn; tables = t; bytes = bytes; text
 abbrev pub last_turn : Tables → List ℕ → ℕ → List ℕ → ℕ → Turned
 last_turn t bytes there room number =
     let text = ending_text number there in
-    turned (record { printed = length text; next = None }) t bytes (written room 0 text)
+    turned (record { place = record { number = number; there = there }; printed = length text; next = None }) t bytes (written room 0 text)
 
 -- records are run as far as they and the room go, and the bytes behind them are moved to the front
 abbrev pub part_turn : Tables → List ℕ → ℕ → List ℕ → ℕ → Turned
 part_turn t bytes there room number =
     let o = replayed t (take there bytes) room number in
     let p = o.progress in
-    turned (record { printed = p.printed; next = Some (record { number = p.number; there = there - p.taken }) }) o.tables (at_front bytes p.taken (there - p.taken)) o.text
+    let place : Position = record { number = p.number; there = there - p.taken } in
+    turned (record { place = place; printed = p.printed; next = Some place }) o.tables (at_front bytes p.taken (there - p.taken)) o.text
 
 -- the part is the first `there` bytes of its buffer. A program reads until a record is there or the input ends: where none is, the log ends
 unfoldable pub turn_of : Tables → List ℕ → ℕ → List ℕ → ℕ → Turned

@@ -11,16 +11,17 @@ use crate::buffer::advance;
 use books::Books;
 use log_file::{RECORD, Text};
 
-// Where a log goes on: records in all so far, and bytes of the log that are at the front of the buffer.
+// A place in a log: records in all so far, and bytes of the log that are at the front of the buffer.
 #[derive(Clone, Copy, Debug, PartialEq, Eq)]
 pub struct Position {
     pub number: u64,
     pub there: usize,
 }
 
-// Bytes of text to print, and where the log goes on, if it does.
+// The place behind the turn, bytes of text to print, and where the log goes on, if it does: at that place.
 #[derive(Clone, Copy, Debug, PartialEq, Eq)]
 pub struct Turn {
+    pub place: Position,
     pub printed: usize,
     pub next: Option<Position>,
 }
@@ -40,20 +41,23 @@ pub fn start(
     ensures good_to_go_on { OnSome result.next (good_tables (tables stakes.new offers.new books.new) ≡ true) }
 {
     let mut text = Text { bytes: text, at: 0 };
+    let place = Position {
+        number: 0,
+        there: 0,
+    };
     if begin(stakes, offers, books, head).is_err() {
         text.write_bad_head();
         return Turn {
+            place,
             printed: text.at,
             next: None,
         };
     }
     text.write_opening();
     Turn {
+        place,
         printed: text.at,
-        next: Some(Position {
-            number: 0,
-            there: 0,
-        }),
+        next: Some(place),
     }
 }
 
@@ -78,16 +82,19 @@ pub fn take_turn(
         let mut text = Text { bytes: text, at: 0 };
         text.write_ending(number, there as u64);
         return Turn {
+            place: Position { number, there },
             printed: text.at,
             next: None,
         };
     }
     let done = advance(stakes, offers, books, bytes, there, text, number);
+    let place = Position {
+        number: done.number,
+        there: there - done.taken,
+    };
     Turn {
+        place,
         printed: done.printed,
-        next: Some(Position {
-            number: done.number,
-            there: there - done.taken,
-        }),
+        next: Some(place),
     }
 }

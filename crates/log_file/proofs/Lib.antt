@@ -18,3 +18,4 @@ pub mod Writes
 pub mod RoundTrip
 pub mod Told
 pub mod Sample
+pub mod Digits

@@ -44,7 +44,10 @@ transfer_text t =
     t.kind
     []
 
--- "then its transfers"
+-- of any code and numbers, "then its transfers"
+abbrev pub told_text : ℕ → ℕ → ℤ → ℤ → Transfer → Transfer → List ℕ
+told_text number code first second one two = figures_text number code first second ++ transfer_text one ++ transfer_text two
+
 abbrev pub answer_text : ℕ → Answer → List ℕ
 answer_text number a = line_text number a ++ transfer_text a.one ++ transfer_text a.two
 

@@ -2,7 +2,7 @@
 ghost use Rattle.std.specs.Prelude.{◌+◌, ◌≤◌, length};
 ghost use Rattle.rules.specs.Answers.{due, answer_of};
 ghost use Rattle.log_file.specs.Written.{Wrote};
-ghost use Rattle.log_file.specs.Lines.{opening_text, bad_head_text, figures_text, transfer_text, answer_text, ending_text, longest};
+ghost use Rattle.log_file.specs.Lines.{opening_text, bad_head_text, figures_text, transfer_text, told_text, answer_text, ending_text, longest};
 
 use crate::texts::Text;
 use rules::{Answer, Direction, Transfer};
@@ -35,8 +35,8 @@ impl Text<'_> {
     {
         self.put_number(number, b' ');
         self.put_number(code, b' ');
-        self.put_number(first, b' ');
-        self.put_number(second, b'\n');
+        self.put_signed(first, b' ');
+        self.put_signed(second, b'\n');
     }
 
     pub fn write_transfer(&mut self, transfer: Option<Transfer>)
@@ -54,6 +54,25 @@ impl Text<'_> {
         self.put_pair(transfer.account.0, transfer.amount);
     }
 
+    // A record's number, any code and two numbers, then the transfers that are due.
+    pub fn write_told(
+        &mut self,
+        number: u64,
+        code: u64,
+        first: i64,
+        second: i64,
+        one: Option<Transfer>,
+        two: Option<Transfer>,
+    )
+        requires { self.old.at + longest ≤ length self.old.bytes.now }
+        ensures wrote { Wrote self.old (told_text number code first second (due one) (due two)) self.new }
+        ensures upper_bound { self.new.at ≤ self.old.at + longest }
+    {
+        self.write_line(number, code, first, second);
+        self.write_transfer(one);
+        self.write_transfer(two);
+    }
+
     // A record's number and answer, then its transfers.
     pub fn write_answer(&mut self, number: u64, answer: Answer)
         requires { self.old.at + longest ≤ length self.old.bytes.now }
@@ -61,12 +80,8 @@ impl Text<'_> {
         ensures upper_bound { self.new.at ≤ self.old.at + longest }
     {
         match answer {
-            Ok(done) => {
-                self.write_line(number, 0, done.first, done.second);
-                self.write_transfer(done.one);
-                self.write_transfer(done.two);
-            }
-            Err(refusal) => self.write_line(number, refusal.code(), 0, 0),
+            Ok(done) => self.write_told(number, 0, done.first, done.second, done.one, done.two),
+            Err(refusal) => self.write_told(number, refusal.code(), 0, 0, None, None),
         }
     }
 

@@ -1,16 +1,26 @@
 // A text that is written into a lent buffer.
-ghost use Rattle.std.specs.Prelude.{◌≡◌, ◌+◌, ◌≤◌, ◌<◌, length};
+ghost use Rattle.std.specs.Prelude.{◌≡◌, ◌+◌, ◌≤◌, length};
+ghost use Rattle.std.specs.Fmt.{decimal, signed_decimal};
 ghost use Rattle.log_file.specs.Bytes.{bytes_of};
 ghost use Rattle.log_file.specs.Written.{Wrote};
 ghost use Rattle.log_file.specs.Lines.{followed, pair_text};
-
-use itoa::Integer;
 
 // A lent buffer, and the place behind what is written in it.
 #[derive(Drop)]
 pub struct Text<'a> {
     pub bytes: &'a mut [u8],
     pub at: usize,
+}
+
+// How many digits a number has.
+fn digits(number: u64) -> usize
+    ensures count { result ≡ length (decimal number) }
+    ensures most { result ≤ 20 }
+{
+    if number == 0 {
+        return 1;
+    }
+    number.ilog10() as usize + 1
 }
 
 impl Text<'_> {
@@ -24,15 +34,39 @@ impl Text<'_> {
         self.at = end;
     }
 
-    // A number in decimal, and the byte behind it.
-    pub(crate) fn put_number<I: Integer>(&mut self, number: I, end: u8)
-        requires { self.old.at + I.MAX_STR_LEN < length self.old.bytes.now }
-        ensures wrote { Wrote self.old (followed (I.text number) end) self.new }
-        ensures upper_bound { self.new.at ≤ self.old.at + I.MAX_STR_LEN + 1 }
+    // The digits of a number, at their place: in a buffer of its own they would have to be copied from there, by C's `memcpy`, which a caller would have to
+    // link.
+    fn put_digits(&mut self, number: u64)
+        requires { self.old.at + 20 ≤ length self.old.bytes.now }
+        ensures wrote { Wrote self.old (decimal number) self.new }
+        ensures upper_bound { self.new.at ≤ self.old.at + 20 }
     {
-        let mut digits = itoa::Buffer::new();
-        self.put_bytes(digits.format(number).as_bytes());
+        let end = self.at + digits(number);
+        itoa::write_digits(number, self.bytes, end);
+        self.at = end;
+    }
+
+    // A number in decimal, and the byte behind it.
+    pub(crate) fn put_number(&mut self, number: u64, end: u8)
+        requires { self.old.at + 21 ≤ length self.old.bytes.now }
+        ensures wrote { Wrote self.old (followed (decimal number) end) self.new }
+        ensures upper_bound { self.new.at ≤ self.old.at + 21 }
+    {
+        self.put_digits(number);
         self.put_bytes(&[end]);
+    }
+
+    // The same of a signed number.
+    pub(crate) fn put_signed(&mut self, number: i64, end: u8)
+        requires { self.old.at + 22 ≤ length self.old.bytes.now }
+        ensures wrote { Wrote self.old (followed (signed_decimal number) end) self.new }
+        ensures upper_bound { self.new.at ≤ self.old.at + 22 }
+    {
+        if number < 0 {
+            self.put_bytes(b"-");
+            return self.put_number(number.unsigned_abs(), end);
+        }
+        self.put_number(number.unsigned_abs(), end);
     }
 
     // Two numbers, and the end of the line.

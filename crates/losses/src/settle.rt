@@ -9,8 +9,8 @@ ghost use Rattle.losses.specs.inner.Settling.{LastSharer, NoneBelow, Sharers, So
 use crate::Loss;
 use books::layout::{STAKE, STAKE_WIDTH};
 
-// The least stake.
-const LEAST: i64 = -1_000_000_000_000_000;
+// -10^15, as a word: the least stake.
+const LEAST: u64 = 0xfffc_7281_5b39_8000;
 
 // The last of the rows from .. to - 1 that has a stake. A row that is kept only for its accrual is passed by.
 pub fn last_sharer(stakes: &[u64], from: usize, to: usize) -> usize
@@ -57,6 +57,6 @@ impl Loss {
         }
         let rest = self.rest_for(stakes);
         let left = whole::sub(rows::get(stakes, STAKE_WIDTH, self.last, STAKE), rest);
-        whole::of_word(left) < LEAST
+        whole::less(left, LEAST)
     }
 }

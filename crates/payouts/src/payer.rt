@@ -39,7 +39,10 @@ pub fn open_call(books: &Books, signer: Account, amount: i64) -> Result<u64, Ref
 pub fn positive_part(word: u64) -> u64
     ensures { result ≡ up (to_z w64 word) }
 {
-    whole::of_word(word).max(0) as u64
+    if whole::is_negative(word) {
+        return 0;
+    }
+    word
 }
 
 // The answer of a call that pays `amount`, with what is left.

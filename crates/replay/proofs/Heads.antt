@@ -69,7 +69,7 @@ module _ (t : Tables) (head room : List ℕ) (within : length head ≤ head_byte
     where
       go : (b : Bool) → eqb (opened t head).code 0 ≡ b
           → started first t₁ text₁
-          ≡ started (record { printed = length (cond b opening_text bad_head_text); next = cond b (Some beginning) None }) (opened t head).tables (cond b opening_text bad_head_text ++ drop (0 + length (cond b opening_text bad_head_text)) room)
+          ≡ started (record { place = beginning; printed = length (cond b opening_text bad_head_text); next = cond b (Some beginning) None }) (opened t head).tables (cond b opening_text bad_head_text ++ drop (0 + length (cond b opening_text bad_head_text)) room)
           → Replayed t t₁ known left out out₁
       go true code e = absurd (true≢false (sym (ap (λ (x : Started). is_some x.turn.next) e) ∙ stop))
       go false code e =
@@ -92,7 +92,7 @@ module _ (t : Tables) (head room : List ℕ) (within : length head ≤ head_byte
     where
       go : (b : Bool) → eqb (opened t head).code 0 ≡ b
           → started first t₁ text₁
-          ≡ started (record { printed = length (cond b opening_text bad_head_text); next = cond b (Some beginning) None }) (opened t head).tables (cond b opening_text bad_head_text ++ drop (0 + length (cond b opening_text bad_head_text)) room)
+          ≡ started (record { place = beginning; printed = length (cond b opening_text bad_head_text); next = cond b (Some beginning) None }) (opened t head).tables (cond b opening_text bad_head_text ++ drop (0 + length (cond b opening_text bad_head_text)) room)
           → Replayed t t₂ known left₂ out out₂
       go false code e = absurd (false≢true (sym (ap (λ (x : Started). is_some x.turn.next) e) ∙ on))
       go true code e =

@@ -1,14 +1,15 @@
 -- Words that are all 0: the test by the bits of them together, and that it tests what `Blank` says.
 use mathlib.Core.Path.{◌≡◌, refl, sym, ap, ap₂, ◌∙◌}
 use mathlib.Core.Bool.{Bool, true, false, ◌&&◌, and_assoc, and-true}
-use mathlib.Core.List.{List, [], ◌∷◌}
+use mathlib.Core.List.{List, [], ◌∷◌, ◌++◌}
 use Prim.Native.Nat.{ℕ, zero, suc, ◌+◌, ◌-◌}
 use native.Mathlib.Omega.{arith}
 use lib.Dec.{eqb}
-use lib.ListN.{get_or, drop}
+use lib.ListN.{get_or, take, drop}
 use lib.Seq.{get_or-drop}
 use borrow.Author.Tests.{eq-eqb, ne_eqb, eqb-true}
 use Rattle.std.proofs.Common.{fold, bit_or}
+use Rattle.std.proofs.lemmas.List.{take-append-drop}
 use Rattle.std.proofs.lemmas.Nat.{le_or_l}
 use Rattle.std.specs.Int.Bits.{or_zero_l}
 use Rattle.rows.specs.inner.Order.{Blank}
@@ -34,6 +35,14 @@ bits-from a (x ∷ s) = bits-from (bit_or a x) s ∙ ap (λ (t : Bool). t && all
 
 pub no-bits : (s : List ℕ) → eqb (fold bit_or 0 s) 0 ≡ all_zero s
 no-bits s = bits-from 0 s
+
+-- the first n words and those behind them
+zero-parts : (s t : List ℕ) → all_zero (s ++ t) ≡ (all_zero s && all_zero t)
+zero-parts [] t = refl
+zero-parts (x ∷ s) t = ap (λ (b : Bool). eqb x 0 && b) (zero-parts s t) ∙ sym (and_assoc (eqb x 0) (all_zero s) (all_zero t))
+
+pub zero-split : (s : List ℕ) (n : ℕ) (part behind : List ℕ) → part ≡ take n s → behind ≡ drop n s → all_zero s ≡ (all_zero part && all_zero behind)
+zero-split s n part behind p b = ap all_zero (sym (take-append-drop n s)) ∙ zero-parts (take n s) (drop n s) ∙ ap₂ (λ (x y : List ℕ). all_zero x && all_zero y) (sym p) (sym b)
 
 -- the test is true of words that are all 0, and of no others
 pub zero-blank : (s : List ℕ) (from : ℕ) → all_zero (drop from s) ≡ true → Blank s from

@@ -34,7 +34,7 @@ fn banked_row(books: &Books, row: Stake, time: u64) -> Result<Stake, Refusal>
     })
 }
 
-// Refuses where a row, as it is banked, would pass the limit of an accrual.
+// Refuses where a row, as it is banked, would pass the limit of an accrual: from the last row down.
 fn rows_fit(
     stakes: &[u64],
     books: &Books,
@@ -45,7 +45,7 @@ fn rows_fit(
     requires { CanBank stakes.now books.now from used time }
     ensures { told_code result ≡ cond (accruals_fit (banked_rows stakes.now books.now time)) 0 OverLimit }
 {
-    for i in from..used {
+    for i in (from..used).rev() {
         banked_row(books, Stake::at(stakes, i), time)?;
     }
     Ok(())

@@ -8,7 +8,7 @@ use Rattle.std.proofs.lemmas.Int.{quot-rem}
 use borrow.Author.Differences.{quot_is, rem_is}
 use Rattle.whole.proofs.Linear.{whole, neg, one, abs}
 
-times : (x : ℤ) (l : ℕ) → (up (x *ℤ pos l) ≡ up x * l) × (dn (x *ℤ pos l) ≡ dn x * l)
+pub times : (x : ℤ) (l : ℕ) → (up (x *ℤ pos l) ≡ up x * l) × (dn (x *ℤ pos l) ≡ dn x * l)
 times x l = omega (arith, whole)
 
 -- the parts of a share, and of what it drops

@@ -12,6 +12,6 @@ returns-clause-wrote c =
     let a = c.args in
     let small : mag a.first < 2 ^ 63 = search in
     let low : mag a.second < 2 ^ 63 = search in
-    let first = wrote_as (ap (λ (z : ℤ). followed (signed_decimal z) space) (number-back a.first (record { sfits = small }))) c.put_number-3.ensures.wrote in
-    let second = wrote_as (ap (λ (z : ℤ). followed (signed_decimal z) newline) (number-back a.second (record { sfits = low }))) c.put_number-4.ensures.wrote in
+    let first = wrote_as (ap (λ (z : ℤ). followed (signed_decimal z) space) (number-back a.first (record { sfits = small }))) c.put_signed.ensures.wrote in
+    let second = wrote_as (ap (λ (z : ℤ). followed (signed_decimal z) newline) (number-back a.second (record { sfits = low }))) c.put_signed-2.ensures.wrote in
     wrote-more (omega arith) (wrote-more (omega arith) (wrote-more (omega arith) c.put_number.ensures.wrote c.put_number-2.ensures.wrote) first) second
