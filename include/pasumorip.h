@@ -1,6 +1,6 @@
 /* Pasumorip: a proved settlement engine for pools of stakes. The functions of libpasumorip.a, for C.
  *
- * The caller lends three tables of 64-bit words and keeps them; the library keeps nothing and calls nothing.
+ * The caller lends three tables of 64-bit words and keeps them; the library keeps nothing and calls nothing but C's memset.
  *
  * What a caller owes, since no function can test it: each pointer is valid for as many elements as the length beside it says, to be read and,
  * where it is not const, written; it is aligned for its type, and not null even where that length is 0; no two of the lent parts overlap; and
